@@ -92,7 +92,7 @@ pub(crate) const VERBOSE_FLAG: Switch = Switch {
 pub(crate) const FRAMES_OPTION: NumberOption = NumberOption {
     name: FRAMES,
     value: "F",
-    help: "How many pages of words may be in memory",
+    help: "How many pages of words may be in memory; where more are in use, an event may write one and read one",
     required: false,
     least: LEAST_FRAMES as i64,
     most: MOST_FRAMES as i64,
