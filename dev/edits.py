@@ -28,7 +28,7 @@ class Function:
         self.line = re.compile(rf"^fn ({path}::{head[2]}): (.*)$", re.M)
 
     def __eq__(self, other):
-        return (self.file, self.begin) == (other.file, other.begin)
+        return isinstance(other, Function) and (self.file, self.begin) == (other.file, other.begin)
 
     def __hash__(self):
         return hash((self.file, self.begin))
