@@ -1,21 +1,18 @@
 -- How one batch after the other becomes the present one.
-use Rattle.std.proofs.Common.{◌≡◌, ◌≤◌, ◌<◌, ◌+◌, ◌-◌, ◌∙◌, ℕ, Option, Some, None, IfSome, List, ◌∷◌, ◌++◌, length, take, drop, min, slice_range, sym, ap, arith, append_assoc, length-append, length-drop, take-append-drop}
-use Rattle.std.proofs.lemmas.List.{drop-drop, drop-take, take-take, take_all, take_min}
+use Rattle.std.proofs.Common.{◌≡◌, ◌≤◌, ◌<◌, ◌+◌, ◌-◌, ◌∙◌, ℕ, Option, Some, None, IfSome, List, [], ◌∷◌, ◌++◌, length, take, drop, min, slice_range, refl, sym, ap, arith, append_assoc, length-append, take-append-drop}
+use Rattle.std.proofs.Math.Seq.{take-append-add}
+use Rattle.std.proofs.lemmas.List.{append-nil, drop-drop, drop-take, drop_at, length-take, take-take, take_all, take_at, take_min}
+use Rattle.std.specs.List.{flat_map}
 use Rattle.std.specs.Int.{w32, to_be_bytes}
 use Rattle.std.specs.Prelude.{◌≢◌, IsErrOf, IfErr, Result, Ok, Err}
 use Rattle.hg_gate.specs.declared.fault.GateFault.{GateFault}
 use Rattle.hg_gate.specs.declared.fault.GateFault.TheVariants.{Damaged}
 use Rattle.hg_gate.specs.declared.reader.LogReader.{LogReader}
-use Rattle.hg_gate.specs.Batches.{IsLog, open_gate}
-use Rattle.hg_gate.specs.Scan.{IsHead, IsOpen}
-use Rattle.hg_gate.specs.Turning.{IsReadTo, IsTurned, ahead_of, rest_of}
-use Rattle.hg_gate.proofs.Reading.{next_of, push_length, tail_at}
-
--- bytes behind some, of a front that is long enough
-front_of : (n m k : ℕ) (xs : List ℕ) → n + m ≤ k → take m (drop n (take k xs)) ≡ take m (drop n xs)
-front_of n m k xs le =
-    let whole : k ≡ n + (k - n) = omega (arith, le) in
-    ap (λ (j : ℕ). take m (drop n (take j xs))) whole ∙ ap (λ (l : List ℕ). take m l) (drop-take n (k - n) xs) ∙ take-take m (k - n) (drop n xs) (omega (arith, le))
+use Rattle.hg_gate.specs.Batches.{batch, open_gate}
+use Rattle.hg_gate.specs.Scan.{IsHead, IsOpen, IsTail}
+use Rattle.hg_gate.specs.Turning.{IsReadTo, IsTurned, ShowsFirst, ahead_of, rest_of}
+use Rattle.hg_gate.proofs.Reading.{push_length}
+use Rattle.hg_gate.proofs.Walking.{first_of, strip}
 
 -- what is left of a front behind some bytes
 front_left : (n k : ℕ) (xs : List ℕ) → n ≤ k → drop n (take k xs) ≡ take (k - n) (drop n xs)
@@ -29,14 +26,16 @@ passed from to count xs le =
     let less : to - (from + count) ≡ (to - from) - count = omega (arith, le) in
     ap (λ (n : ℕ). take n (drop (from + count) xs)) less ∙ ap (λ (l : List ℕ). take ((to - from) - count) l) (sym (drop-drop count from xs)) ∙ sym (front_left count (to - from) (drop from xs) (omega (arith, le)))
 
--- a batch that stands in a front of the bytes stands in them
-pub open_further : (k n : ℕ) (tail : List ℕ) → IsOpen (take k tail) n → IsOpen tail n
-open_further k n tail o = record {
-  rest = o.rest ++ drop k tail;
-  spelling = sym (take-append-drop k tail) ∙ ap (λ (l : List ℕ). l ++ drop k tail) o.spelling ∙ ap (λ (l : List ℕ). open_gate ∷ l) (append_assoc (to_be_bytes w32 n) o.rest (drop k tail));
-  is_length = o.is_length;
-  long = omega (arith, o.long, length-append o.rest (drop k tail));
-}
+-- a batch that stands whole in the bytes, in a front that is longer
+pub open_in_front : (k n : ℕ) (bytes : List ℕ) → 5 + n < k → IsOpen bytes n → IsOpen (take k bytes) n
+open_in_front k n bytes longer o =
+    let split : k ≡ 5 + (k - 5) = omega (arith, longer) in
+    record {
+      rest = take (k - 5) o.rest;
+      spelling = ap (λ (j : ℕ). take j bytes) split ∙ ap (λ (l : List ℕ). take (5 + (k - 5)) l) o.spelling ∙ take-append-add (open_gate ∷ to_be_bytes w32 n) o.rest (k - 5);
+      is_length = o.is_length;
+      long = omega (arith, o.long, longer, length-take (k - 5) o.rest);
+    }
 
 pub open_len : (n : ℕ) (bytes : List ℕ) → IsOpen bytes n → 5 + n < length bytes
 open_len n bytes o = omega (arith, ap length o.spelling, length-append (to_be_bytes w32 n) o.rest, o.long)
@@ -64,30 +63,52 @@ ahead_front n count xs fits least =
     let first : count ≡ min 5 (length xs) = omega (arith, least, ap length all) in
     ap (λ (l : List ℕ). take count l) all ∙ ap (λ (k : ℕ). take k xs) first ∙ take_min 5 xs
 
-module _ (file : List ℕ) (old new : LogReader) (n : ℕ) (seen left : List (List ℕ)) (has : IsLog file (seen ++ left)) (at : IsReadTo file old seen) (begins : IsOpen (drop old.next file) n) where
+-- nothing was read ahead
+pub none_ahead : (left : List (List ℕ)) → ShowsFirst [] left
+none_ahead left [] rest each is = (left, refl)
+none_ahead left (body ∷ whole) rest each is = let none : length (batch body ++ (flat_map batch whole ++ rest)) ≡ 0 = ap length (sym (is ∙ append_assoc (batch body) (flat_map batch whole) rest)) in absurd (omega (arith, none))
+
+-- the front of what a log has behind the batches that were seen
+pub front_shows : (k : ℕ) (tail : List ℕ) (left : List (List ℕ)) → IsTail tail left → ShowsFirst (take k tail) left
+front_shows k tail left t whole rest each is =
+    let whole_tail : tail ≡ flat_map batch whole ++ (rest ++ drop k tail) = sym (take-append-drop k tail) ∙ ap (λ (l : List ℕ). l ++ drop k tail) is ∙ append_assoc (flat_map batch whole) rest (drop k tail) in
+    let found = strip whole left (rest ++ drop k tail) t.gate t.rest each t.each t.closed (sym t.spelling ∙ whole_tail) in
+    (found.more, found.all)
+
+-- batches are added behind those that are left
+pub stays_on_append : (r : LogReader) (seen left added : List (List ℕ)) → IsReadTo r seen left → IsReadTo r seen (left ++ added)
+stays_on_append r seen left added at = record {
+  place = at.place;
+  ahead = λ whole rest each is.
+      let found = at.ahead whole rest each is in
+      (found.0 ++ added, ap (λ (l : List (List ℕ)). l ++ added) found.1 ∙ append_assoc whole found.0 added);
+}
+
+module _ (old new : LogReader) (n : ℕ) (seen left : List (List ℕ)) (at : IsReadTo old seen left) (begins : IsOpen (ahead_of old) n) where
   -- the next batch is the present one, once it was read ahead
-  pub turned : old.to + (5 + n) ≤ length old.piece.items → new.piece.items ≡ old.piece.items → new.next ≡ old.next + (5 + n) → new.from ≡ old.to + 5 → new.to ≡ new.from + n → IsTurned file new seen left
-  turned whole same next from to =
+  pub turned : new.piece.items ≡ old.piece.items → new.next ≡ old.next + (5 + n) → new.from ≡ old.to + 5 → new.to ≡ new.from + n → IsTurned new seen left
+  turned same next from to =
       let piece = old.piece.items in
-      let tail = drop old.next file in
-      let k = length (ahead_of old) in
-      let found = next_of tail n left (tail_at file old.next seen left at.place has) begins in
-      let size : length piece - old.to ≡ k = sym (length-drop old.to piece) in
+      let first = first_of (ahead_of old) n begins in
+      let body = first.body in
+      let found = at.ahead (body ∷ []) first.more (first.is_body, tt) (first.spelling ∙ ap (λ (l : List ℕ). l ++ first.more) (sym (append-nil (batch body)))) in
       let few : new.to - new.from ≡ n = omega (arith, to) in
-      let fits : 5 + n ≤ k = omega (arith, size, whole) in
-      let body : rest_of new ≡ found.body =
+      let present : rest_of new ≡ body =
       ap (λ (l : List ℕ). take (new.to - new.from) (drop new.from l)) same ∙ ap (λ (j : ℕ). take j (drop new.from piece)) few ∙ ap (λ (j : ℕ). take n (drop j piece)) from
-      ∙ ap (λ (l : List ℕ). take n l) (sym (drop-drop 5 old.to piece)) ∙ ap (λ (l : List ℕ). take n (drop 5 l)) at.ahead ∙ front_of 5 n k tail fits ∙ found.bytes in
-      let length_is : length (rest_of new) ≡ n = ap length body ∙ found.size in
+      ∙ ap (λ (l : List ℕ). take n l) (sym (drop-drop 5 old.to piece)) ∙ ap (λ (l : List ℕ). take n (drop 5 l)) first.spelling ∙ take_at body first.more n first.size in
       let behind : new.to ≡ old.to + (5 + n) = omega (arith, from, to) in
-      let rest : ahead_of new ≡ drop (5 + n) (ahead_of old) = ap (λ (l : List ℕ). drop new.to l) same ∙ ap (λ (j : ℕ). drop j piece) behind ∙ sym (drop-drop (5 + n) old.to piece) in
-      let less : length (ahead_of new) ≡ k - (5 + n) = ap length rest ∙ length-drop (5 + n) (ahead_of old) in
+      let size : length (batch body) ≡ 5 + n = omega (arith, first.size, length-append (to_be_bytes w32 (length body)) body) in
+      let rest : ahead_of new ≡ first.more =
+      ap (λ (l : List ℕ). drop new.to l) same ∙ ap (λ (j : ℕ). drop j piece) behind ∙ sym (drop-drop (5 + n) old.to piece) ∙ ap (λ (l : List ℕ). drop (5 + n) l) first.spelling
+      ∙ drop_at (batch body) first.more (5 + n) size in
+      let length_is : length (rest_of new) ≡ n = ap length present ∙ first.size in
       record {
-        later = found.later;
-        first = found.all ∙ ap (λ (l : List ℕ). l ∷ found.later) (sym body);
+        later = found.0;
+        first = found.1 ∙ ap (λ (l : List ℕ). l ∷ found.0) (sym present);
         at = record {
           place = omega (arith, next, at.place, length_is, push_length seen (rest_of new));
-          ahead = rest ∙ ap (λ (l : List ℕ). drop (5 + n) l) at.ahead ∙ front_left (5 + n) k tail fits ∙ ap (λ (l : List ℕ). take (k - (5 + n)) l) (drop-drop (5 + n) old.next file)
-              ∙ ap (λ (j : ℕ). take (k - (5 + n)) (drop j file)) (sym next) ∙ ap (λ (j : ℕ). take j (drop new.next file)) (sym less);
+          ahead = λ whole more each is.
+              let both = at.ahead (body ∷ whole) more (first.is_body, each) (first.spelling ∙ ap (λ (l : List ℕ). batch body ++ l) (sym rest ∙ is) ∙ sym (append_assoc (batch body) (flat_map batch whole) more)) in
+              (both.0, ap (λ (l : List (List ℕ)). drop 1 l) (sym found.1 ∙ both.1));
         };
       }

@@ -12,6 +12,7 @@ use Rattle.hg_gate.specs.Reading.{WasRead}
 use Rattle.hg_gate.specs.Scan.{IsTail, IsOpen, Walked}
 use Rattle.hg_gate.proofs.Crash.{spelled_push, each_push}
 use Rattle.hg_gate.proofs.Grammar.{sized_apart}
+use Rattle.hg_gate.proofs.Reading.{push_length}
 
 -- reads, one after the other
 pub read_on : {D : Type 0} (g : disk.Ghosts D) (old mid new : D) → LeavesOnly g old mid (IsImage (g.state old)) → g.state mid ≡ g.state old → LeavesOnly g mid new (IsImage (g.state mid)) → LeavesOnly g old new (IsImage (g.state old))
@@ -36,47 +37,51 @@ module _ {D : Type 0} (g : disk.Ghosts D) where
     calls = omega (arith, few, one.calls, two.calls);
   }
 
-batch_length : (body : List ℕ) → length (batch body) ≡ 5 + length body
-batch_length body = omega (arith, length-append (to_be_bytes w32 (length body)) body)
+-- the batch that stands there, and what is behind it
+pub record First (bytes : List ℕ) (n : ℕ) : Type 0 where
+  pub body : List ℕ
+  pub more : List ℕ
+  pub spelling : bytes ≡ batch body ++ more
+  pub size : length body ≡ n
+  pub is_body : IsBody body
+
+pub first_of : (bytes : List ℕ) (n : ℕ) → IsOpen bytes n → First bytes n
+first_of bytes n o =
+    let body = take n o.rest in
+    let more = drop n o.rest in
+    let size : length (take n o.rest) ≡ n = length-take-le n o.rest (omega (arith, o.long)) in
+    record {
+      body = body;
+      more = more;
+      spelling = o.spelling ∙ ap (λ (l : List ℕ). open_gate ∷ (to_be_bytes w32 n ++ l)) (sym (take-append-drop n o.rest)) ∙ ap (λ (k : ℕ). open_gate ∷ (to_be_bytes w32 k ++ (body ++ more))) (sym size)
+          ∙ ap (λ (l : List ℕ). open_gate ∷ l) (sym (append_assoc (to_be_bytes w32 (length body)) body more));
+      size = size;
+      is_body = subst IsBodyLength (sym size) o.is_length;
+    }
 
 module _ (file : List ℕ) (at n : ℕ) (w : Walked file at) (o : IsOpen (drop at file) n) where
-  body : List ℕ
-  body = take n o.rest
+  first : First (drop at file) n
+  first = first_of (drop at file) n o
 
-  more : List ℕ
-  more = drop n o.rest
+  one_more : file ≡ spelled (w.bodies ++ first.body ∷ []) ++ first.more
+  one_more = w.front ∙ ap (λ (l : List ℕ). spelled w.bodies ++ l) first.spelling ∙ sym (spelled_push w.bodies first.body first.more)
 
-  body_length : length body ≡ n
-  unfolding body
-  body_length = length-take-le n o.rest (omega (arith, o.long))
-
-  one_more : file ≡ spelled (w.bodies ++ body ∷ []) ++ more
-  unfolding body more
-  one_more =
-      let split : to_be_bytes w32 n ++ o.rest ≡ to_be_bytes w32 n ++ (body ++ more) = ap (λ (l : List ℕ). to_be_bytes w32 n ++ l) (sym (take-append-drop n o.rest)) in
-      let named : to_be_bytes w32 n ++ (body ++ more) ≡ sized body ++ more =
-      ap (λ (k : ℕ). to_be_bytes w32 k ++ (body ++ more)) (sym body_length) ∙ sym (append_assoc (to_be_bytes w32 (length body)) body more) in
-      w.front ∙ ap (λ (l : List ℕ). spelled w.bodies ++ l) (o.spelling ∙ ap (λ (l : List ℕ). open_gate ∷ l) (split ∙ named)) ∙ sym (spelled_push w.bodies body more)
-
-  new_place : at + (5 + n) ≡ length (spelled (w.bodies ++ body ∷ []))
-  new_place = omega (arith, w.place, body_length, batch_length body, ap length (spelled_push w.bodies body []), length-append (spelled (w.bodies ++ body ∷ [])) [], length-append (spelled w.bodies) (batch body ++ []), length-append (batch body) [])
-
-  is_body : IsBody body
-  is_body = subst IsBodyLength (sym body_length) o.is_length
+  new_place : at + (5 + n) ≡ length (spelled (w.bodies ++ first.body ∷ []))
+  new_place = omega (arith, w.place, first.size, push_length w.bodies first.body)
 
   -- one batch more
   pub walk_on : Walked file (at + (5 + n))
   walk_on = record {
-    bodies = w.bodies ++ body ∷ [];
+    bodies = w.bodies ++ first.body ∷ [];
     place = new_place;
-    front = one_more ∙ ap (λ (l : List ℕ). spelled (w.bodies ++ body ∷ []) ++ l) (sym (ap (λ (l : List ℕ). drop (at + (5 + n)) l) one_more ∙ drop_at (spelled (w.bodies ++ body ∷ [])) more (at + (5 + n)) (sym new_place)));
-    each = each_push w.bodies body w.each is_body;
+    front = one_more ∙ ap (λ (l : List ℕ). spelled (w.bodies ++ first.body ∷ []) ++ l) (sym (ap (λ (l : List ℕ). drop (at + (5 + n)) l) one_more ∙ drop_at (spelled (w.bodies ++ first.body ∷ [])) first.more (at + (5 + n)) (sym new_place)));
+    each = each_push w.bodies first.body w.each first.is_body;
   }
 
   -- and no more
   pub walk_counts : length walk_on.bodies ≡ length w.bodies + 1
   unfolding walk_on
-  walk_counts = length-append w.bodies (body ∷ [])
+  walk_counts = length-append w.bodies (first.body ∷ [])
 
 -- what is left of the batches
 pub record Left (seen bodies : List (List ℕ)) (tail : List ℕ) : Type 0 where
@@ -84,7 +89,7 @@ pub record Left (seen bodies : List (List ℕ)) (tail : List ℕ) : Type 0 where
   pub all : bodies ≡ seen ++ more
   pub is_tail : IsTail tail more
 
-strip : (seen bodies : List (List ℕ)) (tail : List ℕ) (gate : ℕ) (rest : List ℕ) → AllByRecursion IsBody seen → AllByRecursion IsBody bodies → gate ≢ open_gate
+pub strip : (seen bodies : List (List ℕ)) (tail : List ℕ) (gate : ℕ) (rest : List ℕ) → AllByRecursion IsBody seen → AllByRecursion IsBody bodies → gate ≢ open_gate
     → flat_map batch bodies ++ gate ∷ rest ≡ flat_map batch seen ++ tail → Left seen bodies tail
 strip [] bodies tail gate rest each_seen each closed is = record {
   more = bodies;

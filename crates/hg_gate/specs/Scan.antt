@@ -1,8 +1,11 @@
 -- What stands in a log at a place behind its header.
-use Rattle.std.specs.Prelude.{◌≡◌, ◌≢◌, ◌<◌, ◌+◌, ℕ, Option, Some, None, List, ◌∷◌, ◌++◌, length, drop}
+use Rattle.std.specs.Prelude.{◌≡◌, ◌≢◌, ◌<◌, ◌+◌, ℕ, IsTrue, Option, Some, None, List, ◌∷◌, ◌++◌, length, drop, Result, IsErrOf}
 use Rattle.std.specs.List.{flat_map, AllByRecursion}
 use Rattle.std.specs.Int.{w32, to_be_bytes}
 use Rattle.hg_disk.specs.State.{DiskState}
+use Rattle.hg_disk.specs.declared.disk.Disk as disk
+use Rattle.hg_gate.specs.declared.fault.GateFault.{GateFault}
+use Rattle.hg_gate.specs.declared.fault.GateFault.TheVariants.{Damaged}
 use Rattle.hg_gate.specs.Batches.{open_gate, IsClosed, IsBodyLength, IsBody, batch, spelled, IsLog}
 
 -- open batches, a closed gate, and then anything
@@ -20,6 +23,10 @@ IsNoTail bytes = (bodies : List (List ℕ)) → ¬ IsTail bytes bodies
 -- From this place on, what a read gives is no such tail.
 abbrev pub HasNoTail : (at : ℕ) → DiskState → Type 0
 HasNoTail at s = IsNoTail (drop at s.contents)
+
+-- If an honest disk is told as damaged, it has no such tail from this place on.
+abbrev pub TellsNoTail : {D : Type 0} → (g : disk.Ghosts D) → {T : Type 0} → (at : ℕ) → D → Result T GateFault → Type 0
+TellsNoTail g at old result = IsTrue g.is_honest → IsErrOf result Damaged → HasNoTail at (g.state old)
 
 -- an open gate, the length n of a body, so many bytes, and more
 pub record IsOpen (bytes : List ℕ) (n : ℕ) : Type 0 where

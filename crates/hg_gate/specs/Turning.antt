@@ -1,12 +1,14 @@
 -- How far a reader has read a log, and what it has read ahead.
-use Rattle.std.specs.Prelude.{◌≡◌, ◌≢◌, ℕ, Bool, IsTrue, List, [], ◌∷◌, ◌++◌, length, take, drop, slice_range, MatchBool, Result, IfOk, IfErr}
+use Rattle.std.specs.Prelude.{◌≡◌, ◌≢◌, ℕ, Bool, IsTrue, List, [], ◌∷◌, ◌++◌, length, drop, slice_range, MatchBool, Result, IfOk, IfErr}
+use Rattle.std.specs.List.{flat_map, AllByRecursion}
 use Rattle.hg_disk.specs.declared.disk.Disk as disk
 use Rattle.hg_gate.specs.declared.fault.GateFault.{GateFault}
 use Rattle.hg_gate.specs.declared.fault.GateFault.TheVariants.{Damaged}
 use Rattle.hg_gate.specs.declared.log.Log.{Log}
 use Rattle.hg_gate.specs.declared.reader.LogReader.{LogReader}
-use Rattle.hg_gate.specs.Batches.{IsLog, spelled}
-use Rattle.hg_gate.specs.Log.{Reads, disk_of}
+use Rattle.hg_gate.specs.Batches.{IsBody, IsLog, batch, spelled}
+use Rattle.hg_gate.specs.Log.{Reads}
+use Rattle.hg_gate.specs.Scan.{IsOpen}
 
 -- the bytes of the present batch that were not passed yet
 abbrev pub rest_of : LogReader → List ℕ
@@ -16,32 +18,53 @@ rest_of r = slice_range r.piece.items r.from r.to
 abbrev pub ahead_of : LogReader → List ℕ
 ahead_of r = drop r.to r.piece.items
 
--- The next batch is the one behind these, and the file has there what was read ahead.
-pub record IsReadTo (file : List ℕ) (r : LogReader) (seen : List (List ℕ)) : Type 0 where
-  pub place : r.next ≡ length (spelled seen)
-  pub ahead : ahead_of r ≡ take (length (ahead_of r)) (drop r.next file)
+-- The bytes begin with the first of these batches: whatever batches stand whole at their front.
+abbrev pub ShowsFirst : List ℕ → List (List ℕ) → Type 0
+ShowsFirst bytes left =
+    (whole : List (List ℕ)) (rest : List ℕ) → AllByRecursion IsBody whole → bytes ≡ flat_map batch whole ++ rest
+    → (later : List (List ℕ)) × (left ≡ whole ++ later)
 
--- The present batch, whole, is the first of those that were left behind these.
-pub record IsTurned (file : List ℕ) (r : LogReader) (seen left : List (List ℕ)) : Type 0 where
+-- The next batch is the one behind those that were seen, and the batches that were read ahead whole are the first of
+-- those that are left. It says nothing of a closed gate that was read ahead, nor of a batch that is cut, so it is as
+-- good when batches are added.
+pub record IsReadTo (r : LogReader) (seen left : List (List ℕ)) : Type 0 where
+  pub place : r.next ≡ length (spelled seen)
+  pub ahead : ShowsFirst (ahead_of r) left
+
+-- It is as good when batches are added behind those that are left.
+abbrev pub StaysOnAppend : LogReader → Type 0
+StaysOnAppend r = (seen left added : List (List ℕ)) → IsReadTo r seen left → IsReadTo r seen (left ++ added)
+
+-- A reader stays in front of the same batches, whatever the log has.
+abbrev pub StaysReadTo : (old new : LogReader) → Type 0
+StaysReadTo old new = (seen left : List (List ℕ)) → IsReadTo old seen left → IsReadTo new seen left
+
+-- The present batch, whole, is the first of those that were left.
+pub record IsTurned (r : LogReader) (seen left : List (List ℕ)) : Type 0 where
   pub later : List (List ℕ)
   pub first : left ≡ rest_of r ∷ later
-  pub at : IsReadTo file r (seen ++ rest_of r ∷ [])
+  pub at : IsReadTo r (seen ++ rest_of r ∷ []) later
+
+-- A batch with a body of this length, read ahead whole, becomes the present one.
+abbrev pub TurnsOver : (len : ℕ) → (old new : LogReader) → Type 0
+TurnsOver len old new =
+    (seen left : List (List ℕ)) → IsReadTo old seen left → IsOpen (ahead_of old) len → IsTurned new seen left
 
 -- The next batch becomes the present one, or none is left.
 abbrev pub TurnsIn : {E : Type 0} → (file : List ℕ) → (old new : LogReader) → Result Bool E → Type 0
 TurnsIn file old new result =
-    (seen left : List (List ℕ)) → IsLog file (seen ++ left) → IsReadTo file old seen
-    → IfOk result (λ more. MatchBool more (IsTurned file new seen left) (left ≡ []))
+    (seen left : List (List ℕ)) → IsLog file (seen ++ left) → IsReadTo old seen left
+    → IfOk result (λ more. MatchBool more (IsTurned new seen left) (left ≡ []))
 
 module _ {D : Type 0} {g : disk.Ghosts D} where
   -- From an honest disk that is so,
   abbrev pub Turns : {E : Type 0} → Log D g → (old new : LogReader) → Result Bool E → Type 0
   Turns log old new result =
-      (seen left : List (List ℕ)) → IsTrue g.is_honest → Reads log (seen ++ left) → IsReadTo (g.state (disk_of log)).contents old seen
-      → IfOk result (λ more. MatchBool more (IsTurned (g.state (disk_of log)).contents new seen left) (left ≡ []))
+      (seen left : List (List ℕ)) → IsTrue g.is_honest → Reads log (seen ++ left) → IsReadTo old seen left
+      → IfOk result (λ more. MatchBool more (IsTurned new seen left) (left ≡ []))
 
   -- and there is no damage.
   abbrev pub TurnsUndamaged : {T : Type 0} → Log D g → (old : LogReader) → Result T GateFault → Type 0
   TurnsUndamaged log old result =
-      (seen left : List (List ℕ)) → IsTrue g.is_honest → Reads log (seen ++ left) → IsReadTo (g.state (disk_of log)).contents old seen
+      (seen left : List (List ℕ)) → IsTrue g.is_honest → Reads log (seen ++ left) → IsReadTo old seen left
       → IfErr result (λ e. e ≢ Damaged)

@@ -29,7 +29,8 @@ pub trait BodyTest {
     /// The bodies that are wanted.
     ghost wants: { Self → List ℕ → Type 0 };
 
-    /// Whether a body of this length with this front may be wanted. Where it has fewer than 28 bytes, the front is any bytes.
+    /// Whether a body of this length with this front may be wanted. Where it has fewer than 28 bytes, the front is any
+    /// bytes.
     fn may_want(&self, len: u64, front: &[u8]) -> bool
         requires { length front.now ≡ FRONT_LEN }
         ensures { result ≡ false → HaveNoBody (wants self.now) len front.now };
@@ -191,8 +192,8 @@ impl<D: Disk> Gated<D> {
         Ok(Some(body))
     }
 
-    /// The body, or none where the gate is closed, as `read` answers it; but one that is not wanted is told as `Damaged` by its front,
-    /// and takes no memory. It makes three device calls at most.
+    /// The body, or none where the gate is closed, as `read` answers it; but one that is not wanted is told as `Damaged`
+    /// by its front, and takes no memory. It makes three device calls at most.
     pub fn read_wanted<T: BodyTest>(
         &mut self,
         alloc: Global,
@@ -279,8 +280,8 @@ fn read_length<D: Disk>(disk: &mut D) -> Result<u64, GateFault>
     Ok(len)
 }
 
-// The length behind the first byte of a file, and the bytes behind it: the front of the body, if that has one. `Damaged` as for
-// `read_length`.
+// The length behind the first byte of a file, and the bytes behind it: the front of the body, if that has one.
+// `Damaged` as for `read_length`.
 fn read_head<D: Disk>(disk: &mut D, head: &mut [u8]) -> Result<u64, GateFault>
     requires { length head.old ≡ HEAD_LEN }
     ensures size { length head.new ≡ HEAD_LEN }

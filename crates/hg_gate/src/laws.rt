@@ -4,6 +4,8 @@ ghost use Rattle.hg_disk.specs.Laws.{AtMostOne};
 ghost use Rattle.hg_gate.specs.Batches.{IsClosed, IsLog, LeavesLog};
 ghost use Rattle.hg_gate.specs.Log.{Has, disk_of};
 ghost use Rattle.hg_gate.specs.Gated.{AreOneBody, IsOpenWith};
+ghost use Rattle.hg_gate.specs.Turning.{StaysOnAppend};
+ghost use Rattle.hg_gate.specs.declared.reader.LogReader.{LogReader};
 
 use crate::Log;
 use hg_disk::Disk;
@@ -16,6 +18,11 @@ pub fn one_reading()
 /// If a log can be used and its batches are durable, a crash leaves exactly these batches.
 pub fn each_image_has_them<D: Disk>(log: &Log<D>)
     ensures { (bodies : List (List ℕ)) → Has log.now bodies → LeavesLog bodies (D.state (disk_of log.now)) }
+{}
+
+/// A reader's place is as good when batches are added to the log.
+pub fn reader_stays_on_append()
+    ensures { (reader : LogReader) → StaysOnAppend reader }
 {}
 
 /// A file that is closed is not open.

@@ -203,7 +203,7 @@ impl<D: Disk> Log<D> {
 
     /// A reader in front of the first batch, for `turn`. It takes no memory.
     pub fn reader(&self) -> Result<LogReader, GateFault>
-        ensures first { IfOk result (λ reader. (file : List ℕ) → IsReadTo file reader []) }
+        ensures first { IfOk result (λ reader. (left : List (List ℕ)) → IsReadTo reader [] left) }
         ensures none { IfOk result (λ reader. rest_of reader ≡ []) }
         ensures fault { IfErr result (λ e. (e ≡ GateFault.Broken) × IsTrue (is_broken self.now)) }
         ensures refuses { IsTrue (is_broken self.now) → result ≡ Err GateFault.Broken }
@@ -214,8 +214,9 @@ impl<D: Disk> Log<D> {
         Ok(LogReader::new(*self.buffer.allocator()))
     }
 
-    /// Makes the next batch the present one of a reader, whatever is left of that before it, and answers whether there is one.
-    /// After an `Err`, and where there is none, the reader stays as it was, and the call can be made again.
+    /// Makes the next batch the present one of a reader, whatever is left of that before it, and answers whether there is
+    /// one: also one that was appended since the reader was begun. After an `Err`, and where there is none, the reader
+    /// stays as it was, and the call can be made again.
     ///
     /// It makes one device call at most, of `PIECE_LEN` bytes, and none where the whole batch was read ahead. It takes
     /// memory for so many bytes.

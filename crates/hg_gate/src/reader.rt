@@ -1,7 +1,7 @@
 //! Reading the batches of a log, many of them by one call.
 
-ghost use Rattle.std.specs.Prelude.{◌≡◌, ◌+◌, ◌≤◌, ◌^◌, ◌++◌, ℕ, List, [], length, drop, IfSome};
-ghost use Rattle.hg_gate.specs.Batches.{IsBodyLength, IsLog};
+ghost use Rattle.std.specs.Prelude.{◌≡◌, ◌+◌, ◌≤◌, ◌^◌, ℕ, List, [], length, drop, IfSome};
+ghost use Rattle.hg_gate.specs.Batches.{IsBodyLength};
 ghost use Rattle.hg_gate.specs.Scan.{IsOpen};
 
 use crate::scan::{HEAD_LEN, HEADER, parse_head};
@@ -22,11 +22,11 @@ pub struct LogReader {
 }
 
 impl LogReader {
-    ghost use Rattle.hg_gate.specs.Turning.{IsReadTo, IsTurned, ahead_of, rest_of};
+    ghost use Rattle.hg_gate.specs.Turning.{IsReadTo, StaysReadTo, TurnsOver, ahead_of, rest_of};
 
     /// A reader in front of the first batch. It takes no memory.
     pub(crate) fn new(alloc: Global) -> LogReader
-        ensures first { (file : List ℕ) → IsReadTo file result [] }
+        ensures first { (left : List (List ℕ)) → IsReadTo result [] left }
         ensures none { rest_of result ≡ [] }
     {
         LogReader {
@@ -50,7 +50,7 @@ impl LogReader {
     pub fn pass(&mut self, count: usize)
         requires { count ≤ length (rest_of self.old) }
         ensures rest { rest_of self.new ≡ drop count (rest_of self.old) }
-        ensures stays { (file : List ℕ) (seen : List (List ℕ)) → IsReadTo file self.old seen → IsReadTo file self.new seen }
+        ensures stays { StaysReadTo self.old self.new }
     {
         self.from += count;
     }
@@ -72,7 +72,7 @@ impl LogReader {
         requires length { IsBodyLength len }
         requires whole { self.old.to + (5 + len) ≤ length self.old.piece.items }
         requires fits { self.old.next ≤ 2 ^ 62 }
-        ensures turned { (file : List ℕ) (seen left : List (List ℕ)) → IsLog file (seen ++ left) → IsReadTo file self.old seen → IsOpen (drop self.old.next file) len → IsTurned file self.new seen left }
+        ensures turned { TurnsOver len self.old self.new }
     {
         self.next += HEAD_LEN as u64 + u64::from(len);
         self.from = self.to + HEAD_LEN;

@@ -5,7 +5,7 @@ ghost use Rattle.hg_disk.specs.Calls.{CallsAtMost};
 ghost use Rattle.hg_gate.specs.Batches.{IsBodyLength, IsNoLog, OneCallABatch};
 ghost use Rattle.hg_gate.specs.Fault.{failures_after, IsDamagedOrDevice};
 ghost use Rattle.hg_gate.specs.Reading.{WasRead};
-ghost use Rattle.hg_gate.specs.Scan.{HasNoTail, IsNoTail, IsHead, EndsAt, Walked, HasBodyLength, batch_len};
+ghost use Rattle.hg_gate.specs.Scan.{EndsAt, HasBodyLength, IsHead, IsNoTail, TellsNoTail, Walked, batch_len};
 ghost use Rattle.hg_gate.specs.Turning.{TurnsIn};
 
 use crate::batch::MAX_BODY_LEN;
@@ -60,7 +60,7 @@ pub(crate) fn read_head<D: Disk>(disk: &mut D, at: u64) -> Result<Option<u32>, G
     ensures fits { IfOk result (λ found. at + batch_len found ≤ 2 ^ 62) }
     ensures length { IfOk result HasBodyLength }
     ensures head { IsTrue D.is_honest → IfOk result (IsHead (drop at (D.state disk.old).contents)) }
-    ensures damaged { IsTrue D.is_honest → IsErrOf result GateFault.Damaged → HasNoTail at (D.state disk.old) }
+    ensures damaged { TellsNoTail ⟦<D as Disk>⟧ at disk.old result }
     ensures fault { IfErr result IsDamagedOrDevice }
     ensures device { D.failures disk.new ≡ failures_after result (D.failures disk.old) }
     ensures reads { WasRead ⟦<D as Disk>⟧ 1 disk.old disk.new }
@@ -150,7 +150,7 @@ pub(crate) fn read_ahead<D: Disk>(
 ) -> Result<bool, GateFault>
     requires within { reader.old.next ≤ length (D.state disk.old).contents }
     ensures next { IsTrue D.is_honest → TurnsIn (D.state disk.old).contents reader.old reader.new result }
-    ensures whole { IsTrue D.is_honest → IsErrOf result GateFault.Damaged → HasNoTail reader.old.next (D.state disk.old) }
+    ensures whole { TellsNoTail ⟦<D as Disk>⟧ reader.old.next disk.old result }
     ensures again { OnErr result (reader.new ≡ reader.old) }
     ensures stays { result ≡ Ok false → reader.new ≡ reader.old }
     ensures fault { IfErr result (λ e. IsDamagedOrDevice e ⊎ (e ≡ GateFault.OutOfMemory)) }

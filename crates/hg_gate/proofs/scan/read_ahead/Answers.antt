@@ -1,8 +1,9 @@
-use Rattle.std.proofs.Common.{◌≡◌, ◌-◌, ◌∙◌, ℕ, List, length, take, drop, sym, ap, subst, arith, length-drop}
+use Rattle.std.proofs.Common.{◌≡◌, ◌<◌, ◌+◌, ◌-◌, ◌∙◌, ℕ, List, length, take, drop, sym, ap, subst, arith, length-drop}
 use Rattle.hg_gate.specs.Batches.{IsClosed}
 use Rattle.hg_gate.specs.Scan.{IsHead, IsOpen}
+use Rattle.hg_gate.specs.Turning.{ShowsFirst}
 use Rattle.hg_gate.proofs.Reading.{none_left, tail_at}
-use Rattle.hg_gate.proofs.Turning.{front_is}
+use Rattle.hg_gate.proofs.Turning.{front_is, front_shows, open_in_front, open_len}
 use Rattle.hg_gate.proofs.scan.read_ahead.Goals as goal
 
 pub returns-in_default-clause-next : goal.returns-in_default-clause-next
@@ -23,8 +24,10 @@ returns-clause-next g c honest seen left has at =
     let read = c.in_ok-piece.ensures.bytes honest in
     let front = ap (λ (l : List ℕ). take c.min.result l) c.deref.ensures.value ∙ front_is tail piece (c.len.result - c.args.reader.now.next) c.min-count.result c.min.result room c.min-count.ensures read c.min.ensures in
     let begins : IsOpen tail c.in-Some.len = subst (IsHead tail) c.in-Some.is (c.in_ok-len.ensures.head tail front room) in
-    c.turn.ensures.turned file seen left has
-    (record { place = at.place; ahead = read ∙ ap (λ (n : ℕ). take n tail) (sym c.in_ok-piece.ensures.len) }) begins
+    let longer : 5 + c.in-Some.len < c.min-count.result = omega (arith, open_len c.in-Some.len tail begins, begins.is_length.1, room, c.min-count.ensures) in
+    c.turn.ensures.turned seen left
+    (record { place = at.place; ahead = subst (λ (bytes : List ℕ). ShowsFirst bytes left) (sym read) (front_shows c.min-count.result tail left (tail_at file c.args.reader.now.next seen left at.place has)) })
+    (subst (λ (bytes : List ℕ). IsOpen bytes c.in-Some.len) (sym read) (open_in_front c.min-count.result c.in-Some.len tail longer begins))
 
 pub returns-in_err-len-clause-whole : goal.returns-in_err-len-clause-whole
 returns-in_err-len-clause-whole g c honest is =

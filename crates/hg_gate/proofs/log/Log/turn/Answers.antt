@@ -1,8 +1,7 @@
-use Rattle.std.proofs.Common.{List, ℕ, length, length-drop, subst, drop, arith}
-use Rattle.hg_gate.specs.Scan.{IsOpen}
+use Rattle.std.proofs.Common.{length-drop, arith}
 use Rattle.hg_gate.specs.Turning.{ahead_of}
 use Rattle.hg_gate.proofs.Reading.{tail_at}
-use Rattle.hg_gate.proofs.Turning.{open_further, open_len, undamaged}
+use Rattle.hg_gate.proofs.Turning.{open_len, undamaged}
 use Rattle.hg_gate.proofs.log.Log.turn.Goals as goal
 
 pub turn-requires-clause-whole : goal.turn-requires-clause-whole
@@ -11,11 +10,7 @@ turn-requires-clause-whole g c =
     omega (arith, open_len c.in-Some.len (ahead_of r) c.in-Some.ensures, length-drop r.to r.piece.items)
 
 pub returns-in-Some-clause-next : goal.returns-in-Some-clause-next
-returns-in-Some-clause-next g c seen left honest h at =
-    let r = c.args.reader.now in
-    let file = (g.D.Disk.state c.args.self.now.disk).contents in
-    c.turn.ensures.turned file seen left h.has at
-    (open_further (length (ahead_of r)) c.in-Some.len (drop r.next file) (subst (λ (l : List ℕ). IsOpen l c.in-Some.len) at.ahead c.in-Some.ensures))
+returns-in-Some-clause-next g c seen left honest h at = c.turn.ensures.turned seen left at c.in-Some.ensures
 
 pub returns-clause-whole : goal.returns-clause-whole
 returns-clause-whole g c seen left honest h at =

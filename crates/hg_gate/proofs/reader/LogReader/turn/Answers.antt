@@ -4,5 +4,5 @@ use Rattle.hg_gate.proofs.reader.LogReader.turn.Goals as goal
 
 pub returns : goal.returns
 returns c = record {
-  turned = λ file seen left has at begins. turned file c.args.self.now _ c.args.len seen left has at begins c.requires.whole refl (omega arith) (omega arith) (omega arith);
+  turned = λ seen left at begins. turned c.args.self.now _ c.args.len seen left at begins refl (omega arith) (omega arith) (omega arith);
 }
