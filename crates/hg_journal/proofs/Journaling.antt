@@ -9,7 +9,6 @@ use Rattle.hg_records.specs.Lengths.{HasRecord}
 use Rattle.hg_records.specs.Records.{BeginsWith, RecordFits, record_text}
 use Rattle.hg_disk.specs.declared.disk.Disk as disk
 use Rattle.hg_disk.specs.Moments.{Leaves, LeavesOnly}
-use Rattle.hg_disk.specs.State.{DiskState}
 use Rattle.hg_disk.proofs.Moments.{weaker}
 use Rattle.hg_gate.specs.Batches.{IsBody, IsLog, IsBeforeOrAfter}
 use Rattle.hg_gate.specs.declared.fault.GateFault.{GateFault}
@@ -20,6 +19,7 @@ use Rattle.hg_gate.specs.Log.{Has}
 use Rattle.hg_gate.specs.Reading.{RefusesIfBroken}
 use Rattle.hg_gate.specs.Turning.{IsReadTo, IsTurned}
 use Rattle.hg_gate.proofs.Appending.{each_image}
+use Rattle.hg_gate.proofs.Turning.{stays_on_append}
 use Rattle.hg_journal.specs.declared.journal.Journal.{Journal}
 use Rattle.hg_journal.specs.declared.journal.JournalReader.{JournalReader}
 use Rattle.hg_journal.specs.Journal.{IsJournal, batch_text, of_gate}
@@ -108,14 +108,14 @@ module _ {D : Type 0} (g : disk.Ghosts D) where
   -- ---- reading
 
   -- before the first event
-  pub at_first : (j : Journal D g) (r : JournalReader) (bodies : List (List ℕ)) → Has j.log bodies → ((file : List ℕ) → IsReadTo file r.batches []) → rest_of r ≡ [] → IsAt j r []
+  pub at_first : (j : Journal D g) (r : JournalReader) (bodies : List (List ℕ)) → Has j.log bodies → ((left : List (List ℕ)) → IsReadTo r.batches [] left) → rest_of r ≡ [] → IsAt j r []
   at_first j r bodies has place none = record {
     past = [];
     present = [];
     later = bodies;
     read = [];
     has = has;
-    place = place (g.state (disk_of j)).contents;
+    place = place bodies;
     one = omega arith;
     split = sym none;
     fits = tt;
@@ -123,29 +123,31 @@ module _ {D : Type 0} (g : disk.Ghosts D) where
   }
 
   module _ (old : Journal D g) (r : JournalReader) (seen : List Named) (h : IsAt old r seen) where
-    -- a reader with another journal that has the same batches and bytes
-    pub same_batches : (new : Journal D g) → g.state (disk_of new) ≡ g.state (disk_of old) → Has new.log ((map batch_text h.past ++ h.present) ++ h.later) → IsAt new r seen
-    same_batches new same has = record {
-      past = h.past;
-      present = h.present;
-      later = h.later;
-      read = h.read;
-      has = has;
-      place = subst (λ (s : DiskState). IsReadTo s.contents r.batches (map batch_text h.past ++ h.present)) (sym same) h.place;
-      one = h.one;
-      split = h.split;
-      fits = h.fits;
-      whole = h.whole;
-    }
+    -- batches were added to the journal
+    pub added : (new : Journal D g) (more : List (List ℕ)) → Has new.log (((map batch_text h.past ++ h.present) ++ h.later) ++ more) → IsAt new r seen
+    added new more has =
+        let bodies = map batch_text h.past ++ h.present in
+        record {
+          past = h.past;
+          present = h.present;
+          later = h.later ++ more;
+          read = h.read;
+          has = subst (λ (l : List (List ℕ)). Has new.log l) (append_assoc bodies h.later more) has;
+          place = stays_on_append r.batches bodies h.later more h.place;
+          one = h.one;
+          split = h.split;
+          fits = h.fits;
+          whole = h.whole;
+        }
 
     -- the present batch was read to its end
     pub behind : rest_of r ≡ [] → Turned h.past h.present seen
     behind none = turned h.past h.present h.read seen h.one (h.split ∙ ap (λ (l : List ℕ). batch_text h.read ++ l) none ∙ append-nil (batch_text h.read)) h.whole
 
     -- the next one is there
-    pub on : (new : Journal D g) (s : JournalReader) → rest_of r ≡ [] → g.state (disk_of new) ≡ g.state (disk_of old) → Has new.log ((map batch_text h.past ++ h.present) ++ h.later)
-        → IsTurned (g.state (disk_of old)).contents s.batches (map batch_text h.past ++ h.present) h.later → IsAt new s seen × (1 ≤ length (rest_of s))
-    on new s none same has turned =
+    pub on : (new : Journal D g) (s : JournalReader) → rest_of r ≡ [] → Has new.log ((map batch_text h.past ++ h.present) ++ h.later) → IsTurned s.batches (map batch_text h.past ++ h.present) h.later
+        → IsAt new s seen × (1 ≤ length (rest_of s))
+    on new s none has turned =
         let body = rest_of s in
         let later = turned.later in
         let t = behind none in
@@ -158,8 +160,7 @@ module _ {D : Type 0} (g : disk.Ghosts D) where
             later = later;
             read = [];
             has = subst (λ (l : List (List ℕ)). Has new.log l) (sym (append_assoc (map batch_text t.batches) (body ∷ []) later)) (subst (λ (l : List (List ℕ)). Has new.log (l ++ body ∷ later)) (sym t.bodies) moved);
-            place = subst (λ (x : DiskState). IsReadTo x.contents s.batches (map batch_text t.batches ++ body ∷ [])) (sym same)
-                (subst (λ (l : List (List ℕ)). IsReadTo (g.state (disk_of old)).contents s.batches (l ++ body ∷ [])) (sym t.bodies) turned.at);
+            place = subst (λ (l : List (List ℕ)). IsReadTo s.batches (l ++ body ∷ []) later) (sym t.bodies) turned.at;
             one = omega arith;
             split = append-nil body;
             fits = h.fits;
@@ -177,10 +178,10 @@ module _ {D : Type 0} (g : disk.Ghosts D) where
         record { batches = t.batches; has = subst (λ (l : List (List ℕ)). Has new.log l) all has; fits = h.fits; whole = t.whole }
 
     -- one of the two, as the log answered
-    pub found_next : (new : Journal D g) (s : JournalReader) (found : Bool) → rest_of r ≡ [] → g.state (disk_of new) ≡ g.state (disk_of old) → Has new.log ((map batch_text h.past ++ h.present) ++ h.later)
-        → MatchBool found (IsTurned (g.state (disk_of old)).contents s.batches (map batch_text h.past ++ h.present) h.later) (h.later ≡ []) → MatchBool found (IsAt new s seen × (1 ≤ length (rest_of s))) (KeepsEvents new seen)
-    found_next new s true none same has turned = on new s none same has turned
-    found_next new s false none same has last = at_last new none last has
+    pub found_next : (new : Journal D g) (s : JournalReader) (found : Bool) → rest_of r ≡ [] → Has new.log ((map batch_text h.past ++ h.present) ++ h.later)
+        → MatchBool found (IsTurned s.batches (map batch_text h.past ++ h.present) h.later) (h.later ≡ []) → MatchBool found (IsAt new s seen × (1 ≤ length (rest_of s))) (KeepsEvents new seen)
+    found_next new s true none has turned = on new s none has turned
+    found_next new s false none has last = at_last new none last has
 
     -- one event more
     pub step : (s : JournalReader) (named : Named) → BeginsWith (rest_of r) named (rest_of s) → StaysBehind r s → IsAt old s (seen ++ named ∷ [])
@@ -190,7 +191,7 @@ module _ {D : Type 0} (g : disk.Ghosts D) where
       later = h.later;
       read = h.read ++ named ∷ [];
       has = h.has;
-      place = stays (g.state (disk_of old)).contents (map batch_text h.past ++ h.present) h.place;
+      place = stays (map batch_text h.past ++ h.present) h.later h.place;
       one = h.one;
       split = h.split ∙ ap (λ (l : List ℕ). batch_text h.read ++ l) begins.1 ∙ sym (append_assoc (batch_text h.read) (record_text named) (rest_of s))
           ∙ ap (λ (l : List ℕ). l ++ rest_of s) (ap (λ (l : List ℕ). batch_text h.read ++ l) (sym (append-nil (record_text named))) ∙ sym (flat_map-append record_text h.read (named ∷ [])));
@@ -210,7 +211,7 @@ module _ {D : Type 0} (g : disk.Ghosts D) where
             later = h.later;
             read = h.read ++ p.0;
             has = h.has;
-            place = stays (g.state (disk_of old)).contents (map batch_text h.past ++ h.present) h.place;
+            place = stays (map batch_text h.past ++ h.present) h.later h.place;
             one = h.one;
             split = h.split ∙ ap (λ (l : List ℕ). batch_text h.read ++ l) p.3 ∙ sym (append_assoc (batch_text h.read) (batch_text p.0) (rest_of s))
                 ∙ ap (λ (l : List ℕ). l ++ rest_of s) (sym (flat_map-append record_text h.read p.0));

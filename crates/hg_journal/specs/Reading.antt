@@ -13,7 +13,7 @@ use Rattle.hg_gate.specs.Batches.{closed_gate, header}
 use Rattle.hg_gate.specs.Log as log
 use Rattle.hg_gate.specs.Log.{Has}
 use Rattle.hg_gate.specs.Turning as turning
-use Rattle.hg_gate.specs.Turning.{IsReadTo}
+use Rattle.hg_gate.specs.Turning.{IsReadTo, StaysReadTo}
 use Rattle.hg_journal.specs.declared.journal.Journal.{Journal}
 use Rattle.hg_journal.specs.declared.journal.JournalReader.{JournalReader}
 use Rattle.hg_journal.specs.Journal.{IsAllOrNone, IsJournal, IsNoJournal, LeavesJournal, after_refusal, batch_text}
@@ -22,9 +22,9 @@ use Rattle.hg_journal.specs.Journal.{IsAllOrNone, IsJournal, IsNoJournal, Leaves
 abbrev pub rest_of : JournalReader → List ℕ
 rest_of r = turning.rest_of r.batches
 
--- The reader is behind the same batches as before, whatever the file has.
+-- The reader is behind the same batches as before, whatever the log has.
 abbrev pub StaysBehind : (old new : JournalReader) → Type 0
-StaysBehind old new = (file : List ℕ) (seen : List (List ℕ)) → IsReadTo file old.batches seen → IsReadTo file new.batches seen
+StaysBehind old new = StaysReadTo old.batches new.batches
 
 -- The first bytes are n records and then the rest.
 abbrev pub Passes : ℕ → List ℕ → List ℕ → Type 0
@@ -58,7 +58,7 @@ module _ {D : Type 0} {g : disk.Ghosts D} where
     pub later : List (List ℕ)
     pub read : List Named
     pub has : Has j.log ((map batch_text past ++ present) ++ later)
-    pub place : IsReadTo (g.state (disk_of j)).contents r.batches (map batch_text past ++ present)
+    pub place : IsReadTo r.batches (map batch_text past ++ present) later
     pub one : length present ≤ 1
     pub split : flat_map (λ body. body) present ≡ batch_text read ++ rest_of r
     pub fits : AllByRecursion RecordFits seen
@@ -99,6 +99,10 @@ module _ {D : Type 0} {g : disk.Ghosts D} where
   abbrev pub LeavesAllOrNone : (events : List Named) → (old new : Journal D g) → Type 0
   LeavesAllOrNone events old new =
       (past : List Named) → KeepsEvents old past → LeavesOnly g (disk_of old) (disk_of new) (IsAllOrNone past events)
+
+  -- Each reader has read what it had read before, and so goes on to the new events.
+  abbrev pub KeepsReaders : {T E : Type 0} → (old new : Journal D g) → Result T E → Type 0
+  KeepsReaders old new result = (reader : JournalReader) (seen : List Named) → IsAt old reader seen → OnOk result (IsAt new reader seen)
 
   -- If the journal can be used, the reader has read nothing.
   abbrev pub BeginsAtFirst : {E : Type 0} → Journal D g → Result JournalReader E → Type 0

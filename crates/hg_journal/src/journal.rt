@@ -99,7 +99,7 @@ fn batch_of(body: Vec<u8>) -> Batch
 }
 
 impl<D: Disk> Journal<D> {
-    ghost use Rattle.hg_journal.specs.Reading.{AddsDurably, AddsEvents, IsEmptyOn, LeavesAllOrNone, OpensSome, StaysBroken, disk_after, disk_of, failures_of_making, is_broken};
+    ghost use Rattle.hg_journal.specs.Reading.{AddsDurably, AddsEvents, IsEmptyOn, KeepsReaders, LeavesAllOrNone, OpensSome, StaysBroken, disk_after, disk_of, failures_of_making, is_broken};
 
     /// Makes a journal without events on an empty disk. A refusal hands the disk back; after `OutOfMemory` the disk was not
     /// called. It makes two device calls at most.
@@ -174,6 +174,9 @@ impl<D: Disk> Journal<D> {
 
         // A crash at any moment of the call leaves the events from before it, with all the new ones or none.
         ensures any_moment { LeavesAllOrNone events.now self.old self.new }
+
+        // A reader that was begun before reads on, to the new events too.
+        ensures readers { KeepsReaders self.old self.new result }
 
         ensures fault { IfErr result IsBrokenOrDevice }
         ensures calls { CallsAtMost ⟦<D as Disk>⟧ 4 (disk_of self.old) (disk_of self.new) }

@@ -6,7 +6,7 @@ use Rattle.hg_gate.specs.Batches.{IsBeforeOrAfter, IsLog}
 use Rattle.hg_gate.specs.Log.{Has}
 use Rattle.hg_journal.specs.Journal.{batch_text}
 use Rattle.hg_journal.proofs.Filling.{is_body}
-use Rattle.hg_journal.proofs.Journaling.{keeps_pushed, moments}
+use Rattle.hg_journal.proofs.Journaling.{added, keeps_pushed, moments}
 use Rattle.hg_journal.proofs.Journals.{pushed}
 use Rattle.hg_journal.proofs.journal.Journal.append.Goals as goal
 
@@ -29,6 +29,10 @@ returns-in-Ok-clause-durable g c past k image is =
     ap (λ (v : Vec ℕ). v.items) (c.batch_of-batch.ensures ∙ c.replace-body.ensures.value) ∙ c.put_records.ensures.items in
     pushed image past c.args.events.now k.batches k.whole k.fits c.put_records.ensures.fits
     (subst (λ (l : List ℕ). IsLog image (bodies ++ l ∷ [])) text (c.in-Ok.ensures.durable bodies k.has image is))
+
+pub returns-in-Ok-clause-readers : goal.returns-in-Ok-clause-readers
+returns-in-Ok-clause-readers g c reader seen h =
+    added g.D.Disk c.args.self.now reader seen h _ (body_of c.batch_of-batch.result ∷ []) (c.in-Ok.ensures.added ((map batch_text h.past ++ h.present) ++ h.later) h.has)
 
 pub returns-in-Ok-clause-any_moment : goal.returns-in-Ok-clause-any_moment
 returns-in-Ok-clause-any_moment g c past k =

@@ -7,7 +7,7 @@ use Rattle.hg_journal.proofs.journal.Journal.turn.Goals as goal
 pub returns-in-Ok-clause-found : goal.returns-in-Ok-clause-found
 returns-in-Ok-clause-found g c seen honest h =
     let bodies = map batch_text h.past ++ h.present in
-    found_next g.D.Disk c.args.self.now c.args.reader.now seen h _ _ c.in-Ok.found c.requires.read c.turn.ensures.disk.state (c.turn.ensures.has (bodies ++ h.later) h.has)
+    found_next g.D.Disk c.args.self.now c.args.reader.now seen h _ _ c.in-Ok.found c.requires.read (c.turn.ensures.has (bodies ++ h.later) h.has)
     (c.in-Ok.ensures.next bodies h.later honest h.has.reads h.place)
 
 pub returns-in-Err-clause-broken : goal.returns-in-Err-clause-broken

@@ -10,5 +10,5 @@ loop-count-preserved c =
     let begins = subst (λ (l : List ℕ). HasRecord (rest_of c.loop-count.self) l) (sym c.pass.ensures.rest) (subst (λ (l : List ℕ). HasRecord l (drop c.in-Some.len l)) c.rest.ensures is.2) in (
       omega (arith, c.loop-count-test.true),
       pass_one c.loop-count.count _ (rest_of c.loop-count.self) _ c.loop-count.invariant.1 begins,
-      λ file seen at. c.pass.ensures.stays file seen (c.loop-count.invariant.2 file seen at),
+      λ seen left at. c.pass.ensures.stays seen left (c.loop-count.invariant.2 seen left at),
     )
