@@ -84,10 +84,13 @@ pub record WroteRaceFront (k : ℕ) (form : Form) (reads_old reads_new : List Re
   pub since : reads_new ≡ later ++ reads_old
   pub front : (input : List ℕ) → MayBe later input → TellsRaceFront k form input old new
 
+-- The same of the calls of an input and of an output.
+abbrev pub StoppedInRace : {R W : Type 0} → ℕ → Form → Incoming R → Incoming R → Outgoing W → Outgoing W → Type 0
+StoppedInRace k form reads later writes now = WroteRaceFront k form reads.calls later.calls writes.calls now.calls
+
 -- The status 3 says that what was written is a front of what was due.
 abbrev pub EndsEarly : {R W V : Type 0} → ℕ → ℕ → Form → Streams R W V → Streams R W V → Type 0
-EndsEarly status k form before after =
-    status ≡ 3 → WroteRaceFront k form before.input.calls after.input.calls before.output.calls after.output.calls
+EndsEarly status k form before after = status ≡ 3 → StoppedInRace k form before.input after.input before.output after.output
 
 -- What was found of report k in these bytes: its word, or none, and then the text that says so is held.
 pub record IsFound (k : ℕ) (input : List ℕ) (word : Option ℕ) (held : List ℕ) : Type 0 where

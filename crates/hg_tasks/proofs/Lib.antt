@@ -1,0 +1,2 @@
+mod Errors
+mod Spelled

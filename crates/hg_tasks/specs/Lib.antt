@@ -3,4 +3,5 @@ pub mod Lines
 pub mod Look
 pub mod Looking
 pub mod Opening
+pub mod Spelling
 pub mod Taking

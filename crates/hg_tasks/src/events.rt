@@ -1,9 +1,10 @@
 //! The events of a store, as a trace text.
 
-ghost use Rattle.std.specs.Prelude.{◌≡◌, ◌++◌, ◌∷◌, [], OnOk, string_bytes};
+ghost use Rattle.std.specs.Prelude.{◌≡◌, ◌++◌, ◌∷◌, [], IfOk, OnOk, string_bytes};
 ghost use Rattle.hg_tasks.specs.Lines.{event_line, line, lines};
+ghost use Rattle.hg_tasks.specs.Spelling.{LinesAreRead};
 
-use crate::look::LookDisk;
+use hg_disk::Disk;
 use hg_model::event::{Access, Block, Event, Named};
 use hg_model::verdict::Refusal;
 use hg_store::store::Store;
@@ -18,9 +19,9 @@ const PIECE: usize = 1_024;
 
 /// The events of a store in the order in which they were accepted, one a line.
 #[derive(Drop)]
-pub struct EventText<'a> {
+pub struct EventText<D: Disk> {
     alloc: Global,
-    store: Store<LookDisk<'a>>,
+    store: Store<D>,
     /// The place of the next event that is taken, counted from 1.
     next: u64,
     text: String,
@@ -67,6 +68,11 @@ fn put_event(event: Event, text: &mut String) -> Result<(), AllocError>
     }
 }
 
+/// A law: the line of an event is read as that event, as a line of a trace is.
+pub fn lines_are_read()
+    ensures { LinesAreRead }
+{}
+
 /// Appends the lines of events.
 fn put_events(events: &[Named], text: &mut String) -> Result<(), AllocError>
     ensures { OnOk result (string_bytes text.new ≡ string_bytes text.old ++ lines events.now) }
@@ -88,11 +94,13 @@ fn kind_of(refusal: Refusal) -> ErrorKind
     }
 }
 
-impl<'a> EventText<'a> {
-    ghost use Rattle.hg_tasks.specs.Taking.{HasTaken};
+impl<D: Disk> EventText<D> {
+    ghost use Rattle.hg_tasks.specs.Taking.{HasGiven, HasTaken, IsFresh};
 
     /// For a store of which no event was taken yet.
-    pub fn new(alloc: Global, store: Store<LookDisk<'a>>) -> EventText<'a> {
+    pub fn new(alloc: Global, store: Store<D>) -> EventText<D>
+        ensures { IsFresh store result }
+    {
         EventText {
             alloc,
             store,
@@ -104,7 +112,7 @@ impl<'a> EventText<'a> {
 
     /// Takes the next events. Without events the text is empty.
     fn refill(&mut self) -> Result<(), Refusal>
-        ensures { OnOk result (HasTaken self.old self.new) }
+        ensures { OnOk result (HasTaken ⟦<D as Disk>⟧ self.old self.new) }
     {
         self.text.clear();
         self.used = 0;
@@ -113,23 +121,34 @@ impl<'a> EventText<'a> {
         self.next = self.next.saturating_add(events.len() as u64);
         Ok(())
     }
-}
 
-impl<'a> Read for EventText<'a> {
-    fn read(&mut self, buf: &mut [u8]) -> io::Result<usize> {
-        if self.used >= self.text.len() {
-            if let Err(refusal) = self.refill() {
-                return Err(io::Error::from(kind_of(refusal)));
-            }
-        }
+    /// Gives what is left of the text, as much as the buffer takes, and answers how many bytes these are.
+    fn give(&mut self, buf: &mut [u8]) -> usize
+        ensures { HasGiven self.old self.new buf.old buf.new result }
+    {
         let text = self.text.as_bytes();
-        if self.used >= text.len() {
-            return Ok(0);
-        }
-        let rest = &text[self.used..];
+        let rest = &text[self.used.min(text.len())..];
         let count = rest.len().min(buf.len());
         buf[..count].copy_from_slice(&rest[..count]);
         self.used += count;
-        Ok(count)
+        count
+    }
+}
+
+impl<D: Disk> Read for EventText<D> {
+    ghost use Rattle.std.specs.Io.{ReadsAtMost};
+    ghost use Rattle.hg_tasks.specs.Taking.{HasRead};
+
+    fn read(&mut self, buf: &mut [u8]) -> io::Result<usize>
+        ensures bound { ReadsAtMost result buf.new }
+        ensures lines { IfOk result (λ n. HasRead ⟦<D as Disk>⟧ self.old self.new buf.old buf.new n) }
+    {
+        if self.used < self.text.len() {
+            return Ok(self.give(buf));
+        }
+        match self.refill() {
+            Ok(()) => Ok(self.give(buf)),
+            Err(refusal) => Err(io::Error::from(kind_of(refusal))),
+        }
     }
 }

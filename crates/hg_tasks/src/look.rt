@@ -1,18 +1,21 @@
 //! A file that a command only looks at, as a disk of a store.
-ghost use Rattle.std.specs.Prelude.{◌≡◌, ◌+◌, ◌≤◌, ◌^◌, ◌∷◌, false, [], length, replicate, OnOk, is_ok};
-ghost use Rattle.hg_tasks.specs.Looking.{after_answer, replay};
+ghost use Rattle.std.specs.Prelude.{◌≡◌, ◌↔◌, ◌+◌, ◌≤◌, ◌^◌, false, [], length, replicate, IsNone, OnOk, is_ok};
+ghost use Rattle.hg_disk.specs.History.{replay};
+ghost use Rattle.hg_disk.specs.Kept.{has_contents};
+ghost use Rattle.hg_tasks.specs.Looking.{calls_in, first_error, with_call};
 
 use crate::scratch::{Scratch, error_of, read_base};
-use hg_disk::{Answer, Answered, Call, Disk, DiskFault, FileDisk, MAX_LEN};
+use hg_disk::{Call, Disk, DiskFault, FileDisk, MAX_LEN};
 use hg_trail::Trail;
 use std::io;
 use std::io::ErrorKind;
 
-/// A call of a disk with its answer, for contracts alone. A write that took effect has its bytes too.
+/// A call of a disk, for contracts alone. One that failed has its error, and a write that took effect its bytes.
 #[derive(Drop)]
 pub(crate) struct Event {
-    pub told: Answered,
+    pub call: Call,
     pub bytes: Trail<u8>,
+    pub error: Option<io::Error>,
 }
 
 /// A file that is only read, as a disk. What is written to it goes to a scratch file, and is read from there; where there is none, each
@@ -27,7 +30,8 @@ pub struct LookDisk<'a> {
     len: u64,
     events: Trail<Event>,
     error: Option<io::Error>,
-    ghost shows: { len ≡ length (replay (replicate opened_len 0) events).contents },
+    ghost keeps: { error ≡ first_error events },
+    ghost shows: { len ≡ length (replay (replicate opened_len 0) (calls_in events)).contents },
     ghost fits: { len ≤ 2 ^ 62 },
 }
 
@@ -40,16 +44,15 @@ fn note(
     answer: io::Result<()>,
 ) -> Result<(), DiskFault>
     ensures same { is_ok result ≡ is_ok answer }
-    ensures noted { events.new ≡ after_answer call bytes.now (is_ok answer) events.old }
+    ensures noted { events.new ≡ with_call call bytes.now answer events.old }
+    ensures first { error.old ≡ first_error events.old → error.new ≡ first_error events.new }
 {
     match answer {
         Ok(()) => {
             events.push(Event {
-                told: Answered {
-                    call,
-                    answer: Answer::Done,
-                },
+                call,
                 bytes: Trail::of(bytes),
+                error: None,
             });
             Ok(())
         }
@@ -58,11 +61,9 @@ fn note(
                 *error = Some(cause);
             }
             events.push(Event {
-                told: Answered {
-                    call,
-                    answer: Answer::Failed,
-                },
+                call,
                 bytes: Trail::new(),
+                error: Some(cause),
             });
             Err(DiskFault)
         }
@@ -97,7 +98,10 @@ impl<'a> LookDisk<'a> {
     }
 
     /// The system's error of the first call that failed, or none.
-    pub fn error(&self) -> Option<io::Error> {
+    pub fn error(&self) -> Option<io::Error>
+        ensures first { result ≡ first_error self.now.events }
+        ensures none { IsNone result ↔ (look_failures self.now ≡ 0) }
+    {
         self.error
     }
 }
@@ -145,7 +149,6 @@ fn synced(base: &mut FileDisk) -> io::Result<()> {
 
 impl<'a> Disk for LookDisk<'a> {
     ghost use Rattle.hg_tasks.specs.Look.{look_failures, look_past, look_state};
-    ghost use Rattle.hg_tasks.specs.Looking.{has_contents};
 
     ghost is_honest = { false };
 
@@ -155,7 +158,7 @@ impl<'a> Disk for LookDisk<'a> {
 
     ghost failures = { look_failures };
 
-    ghost has_its_bytes = { λ d. has_contents (replicate d.opened_len 0) d.events };
+    ghost has_its_bytes = { λ d. has_contents (replicate d.opened_len 0) (calls_in d.events) };
 
     fn len(&self) -> u64 {
         self.len

@@ -1,4 +1,7 @@
 //! Why the rules refuse an event, in words.
+ghost use Rattle.std.specs.Prelude.{◌≡◌, [], OnOk};
+ghost use Rattle.hg_verbose.specs.Causes.{done_text, first_text, hold_text, mode_text, others_text};
+ghost use Rattle.hg_verbose.specs.Numbers.{Gains, number_text};
 
 use crate::holds::Hold;
 use crate::past::Past;
@@ -48,32 +51,55 @@ fn place(event: Event) -> (u64, u16) {
     }
 }
 
-/// Appends that a thread holds a lock, and since when.
-fn put_hold(hold: Hold, text: &mut String) -> Result<(), AllocError> {
-    let mode = if hold.write {
+/// In which mode a lock is held, before the number of the event that took it.
+fn mode_of(write: bool) -> &'static str
+    ensures { result.now ≡ mode_text write }
+{
+    if write {
         " in write mode since event "
     } else {
         " in read mode since event "
-    };
-    let (thread, lock) = (u64::from(hold.thread), u64::from(hold.lock));
+    }
+}
+
+/// Appends in which mode a lock is held, and since when.
+fn put_mode(write: bool, since: u64, text: &mut String) -> Result<(), AllocError>
+    ensures { OnOk result (Gains text.old text.new (number_text (mode_text write) since [])) }
+{
+    put_number(mode_of(write), since, "", text)
+}
+
+/// Appends that a thread holds a lock, and since when.
+fn put_hold(hold: Hold, text: &mut String) -> Result<(), AllocError>
+    ensures { OnOk result (Gains text.old text.new (hold_text hold)) }
+{
+    let (thread, lock) = (hold.thread as u64, hold.lock as u64);
     put_numbers("thread ", thread, " holds lock ", lock, text)?;
-    put_number(mode, hold.since, "", text)
+    put_mode(hold.write, hold.since, text)
+}
+
+/// Appends how many holds there are beside the first one, of so many.
+fn put_others(count: usize, text: &mut String) -> Result<(), AllocError>
+    ensures { OnOk result (Gains text.old text.new (others_text count)) }
+{
+    if count <= 1 {
+        return Ok(());
+    }
+    if count == 2 {
+        return text.push_str(", and there is one hold more");
+    }
+    put_number(", and there are ", count as u64 - 1, " holds more", text)
 }
 
 /// Appends the first of some locks that are held, and how many there are more.
-fn put_first(first: Option<Hold>, count: usize, text: &mut String) -> Result<(), AllocError> {
+fn put_first(first: Option<Hold>, count: usize, text: &mut String) -> Result<(), AllocError>
+    ensures { OnOk result (Gains text.old text.new (first_text first count)) }
+{
     let Some(hold) = first else {
         return text.push_str("a lock is held");
     };
     put_hold(hold, text)?;
-    match count {
-        0 | 1 => Ok(()),
-        2 => text.push_str(", and there is one hold more"),
-        _ => {
-            let more = count.saturating_sub(1) as u64;
-            put_number(", and there are ", more, " holds more", text)
-        }
-    }
+    put_others(count, text)
 }
 
 /// Appends that a thread is not alive.
@@ -188,7 +214,9 @@ fn put_of_threads(
 }
 
 /// Appends what was done with a message before, and by which event where that is known.
-fn put_done(message: u32, done: &str, event: u64, text: &mut String) -> Result<(), AllocError> {
+fn put_done(message: u32, done: &str, event: u64, text: &mut String) -> Result<(), AllocError>
+    ensures { OnOk result (Gains text.old text.new (done_text message done.now event)) }
+{
     put_number("message ", u64::from(message), done, text)?;
     if event == 0 {
         return text.push_str(" before");

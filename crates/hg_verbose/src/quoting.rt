@@ -1,6 +1,7 @@
 //! Bytes as a text that any terminal can show, and numbers between texts.
 
-ghost use Rattle.std.specs.Prelude.{◌≡◌, ◌++◌, OnOk, decimal, string_bytes};
+ghost use Rattle.std.specs.Prelude.{OnOk};
+ghost use Rattle.hg_verbose.specs.Numbers.{Gains, number_text, numbers_text};
 
 use std::alloc::AllocError;
 use std::fmt::Write;
@@ -16,7 +17,7 @@ pub fn put_number(
     after: &str,
     text: &mut String,
 ) -> Result<(), AllocError>
-    ensures { OnOk result (string_bytes text.new ≡ string_bytes text.old ++ before.now ++ decimal number ++ after.now) }
+    ensures { OnOk result (Gains text.old text.new (number_text before.now number after.now)) }
 {
     write!(text, "{before}{number}{after}")
 }
@@ -29,7 +30,7 @@ pub fn put_numbers(
     second: u64,
     text: &mut String,
 ) -> Result<(), AllocError>
-    ensures { OnOk result (string_bytes text.new ≡ string_bytes text.old ++ before.now ++ decimal first ++ between.now ++ decimal second) }
+    ensures { OnOk result (Gains text.old text.new (numbers_text before.now first between.now second)) }
 {
     write!(text, "{before}{first}{between}{second}")
 }

@@ -6,7 +6,7 @@ ghost use Rattle.hg_streams.specs.Faults.{EndsByFault, HasCause, HasWriteCause, 
 ghost use Rattle.hg_check.specs.Checking.{ChecksTo};
 ghost use Rattle.hg_check.specs.Holding.{HoldsMore};
 ghost use Rattle.hg_check.specs.LifeTaking.{HasToldText, IsFresh as IsFreshLife, LeavesFrontOfText};
-ghost use Rattle.hg_check.specs.RaceLife.{EndsEarly, EndsWell, IsFound, PrintsRace, TellsLife, TellsLifeFront, TellsRace, TellsRaceFront, WroteRaceFront, no_race_text, word_of_race};
+ghost use Rattle.hg_check.specs.RaceLife.{EndsEarly, EndsWell, IsFound, PrintsRace, StoppedInRace, TellsLife, TellsLifeFront, TellsRace, TellsRaceFront, no_race_text, word_of_race};
 ghost use Rattle.hg_check.specs.Taking.{IsFresh};
 
 use crate::checking::Checking;
@@ -194,7 +194,7 @@ fn run_race<R: Read, W: Write>(
 ) -> Result<u8, Refusal>
     ensures prints { IfOk result (PrintsRace number form input.old input.new output.old output.new) }
     ensures status { IfOk result (λ status. status ≡ 3 → ⊥) }
-    ensures front { OnErr result (WroteRaceFront number form input.old.calls input.new.calls output.old.calls output.new.calls) }
+    ensures front { OnErr result (StoppedInRace number form input.old input.new output.old output.new) }
     ensures cause { IfErr result (HasCause input.old.calls input.new.calls output.old.calls output.new.calls) }
 {
     let text = keep(alloc, input)?;
