@@ -1,5 +1,5 @@
 -- How one batch after the other becomes the present one.
-use Rattle.std.proofs.Common.{◌≡◌, ◌≤◌, ◌<◌, ◌+◌, ◌-◌, ◌∙◌, ℕ, Option, Some, None, IfSome, List, [], ◌∷◌, ◌++◌, length, take, drop, min, slice_range, refl, sym, ap, arith, append_assoc, length-append, take-append-drop}
+use Rattle.std.proofs.Common.{◌≡◌, ◌≤◌, ◌<◌, ◌+◌, ◌-◌, ◌∙◌, ℕ, Option, Some, None, IfSome, List, [], ◌∷◌, ◌++◌, length, take, drop, min, slice_range, refl, sym, ap, subst, arith, append_assoc, length-append, length-drop, take-append-drop}
 use Rattle.std.proofs.Math.Seq.{take-append-add}
 use Rattle.std.proofs.lemmas.List.{append-nil, drop-drop, drop-take, drop_at, length-take, take-take, take_all, take_at, take_min}
 use Rattle.std.specs.List.{flat_map}
@@ -10,7 +10,7 @@ use Rattle.hg_gate.specs.declared.fault.GateFault.TheVariants.{Damaged}
 use Rattle.hg_gate.specs.declared.reader.LogReader.{LogReader}
 use Rattle.hg_gate.specs.Batches.{batch, open_gate}
 use Rattle.hg_gate.specs.Scan.{IsHead, IsOpen, IsTail}
-use Rattle.hg_gate.specs.Turning.{IsReadTo, IsTurned, ShowsFirst, ahead_of, rest_of}
+use Rattle.hg_gate.specs.Turning.{EndsWithin, HasAhead, IsReadTo, IsTurned, PassesBatch, ShowsFirst, WentOver, ahead_of, rest_of}
 use Rattle.hg_gate.proofs.Reading.{push_length}
 use Rattle.hg_gate.proofs.Walking.{first_of, strip}
 
@@ -37,8 +37,54 @@ open_in_front k n bytes longer o =
       long = omega (arith, o.long, longer, length-take (k - 5) o.rest);
     }
 
+-- and one that stands in a front of the bytes stands in them
+pub open_further : (k n : ℕ) (tail : List ℕ) → IsOpen (take k tail) n → IsOpen tail n
+open_further k n tail o = record {
+  rest = o.rest ++ drop k tail;
+  spelling = sym (take-append-drop k tail) ∙ ap (λ (l : List ℕ). l ++ drop k tail) o.spelling ∙ ap (λ (l : List ℕ). open_gate ∷ l) (append_assoc (to_be_bytes w32 n) o.rest (drop k tail));
+  is_length = o.is_length;
+  long = omega (arith, o.long, length-append o.rest (drop k tail));
+}
+
 pub open_len : (n : ℕ) (bytes : List ℕ) → IsOpen bytes n → 5 + n < length bytes
 open_len n bytes o = omega (arith, ap length o.spelling, length-append (to_be_bytes w32 n) o.rest, o.long)
+
+-- the bytes that were read ahead behind the next batch
+pub over : (old new : LogReader) (n : ℕ) → new.piece.items ≡ old.piece.items → new.from ≡ old.to + 5 → new.to ≡ new.from + n → ahead_of new ≡ drop (5 + n) (ahead_of old)
+over old new n same from to =
+    let piece = old.piece.items in
+    let behind : new.to ≡ old.to + (5 + n) = omega (arith, from, to) in
+    ap (λ (l : List ℕ). drop new.to l) same ∙ ap (λ (j : ℕ). drop j piece) behind ∙ sym (drop-drop (5 + n) old.to piece)
+
+pub went_over : (old new : LogReader) (n : ℕ) → new.piece.items ≡ old.piece.items → new.next ≡ old.next + (5 + n) → new.from ≡ old.to + 5 → new.to ≡ new.from + n → WentOver (5 + n) old new
+went_over old new n same next from to = record { place = next; ahead = over old new n same from to }
+
+-- nothing was read ahead, so it is the file's
+pub none_of_it : (file : List ℕ) (r : LogReader) → ahead_of r ≡ [] → HasAhead file r
+none_of_it file r none = none ∙ sym (ap (λ (l : List ℕ). take (length l) (drop r.next file)) none)
+
+-- a batch that was read ahead is one of the file
+pub passes : (file : List ℕ) (old new : LogReader) (n : ℕ) → HasAhead file old → IsOpen (ahead_of old) n → WentOver (5 + n) old new → PassesBatch file old new
+passes file old new n at begins went =
+    let k = length (ahead_of old) in
+    let tail = drop old.next file in
+    let fits : 5 + n < k = open_len n (ahead_of old) begins in
+    let less : length (ahead_of new) ≡ k - (5 + n) = ap length went.ahead ∙ length-drop (5 + n) (ahead_of old) in
+    record {
+      len = n;
+      begins = open_further k n tail (subst (λ (l : List ℕ). IsOpen l n) at begins);
+      place = went.place;
+      ahead = went.ahead ∙ ap (λ (l : List ℕ). drop (5 + n) l) at ∙ front_left (5 + n) k tail (omega (arith, fits)) ∙ ap (λ (l : List ℕ). take (k - (5 + n)) l) (drop-drop (5 + n) old.next file)
+          ∙ ap (λ (j : ℕ). take (k - (5 + n)) (drop j file)) (sym went.place) ∙ ap (λ (j : ℕ). take j (drop new.next file)) (sym less);
+    }
+
+-- what was read ahead ends where it did
+pub same_end : (size : ℕ) (old new : LogReader) (n : ℕ) → EndsWithin size old → IsOpen (ahead_of old) n → WentOver (5 + n) old new → (old.next < new.next) × EndsWithin size new
+same_end size old new n within begins went =
+    let less : length (ahead_of new) ≡ length (ahead_of old) - (5 + n) = ap length went.ahead ∙ length-drop (5 + n) (ahead_of old) in (
+      omega (arith, went.place),
+      omega (arith, within, went.place, less, open_len n (ahead_of old) begins),
+    )
 
 -- what is not told
 pub undamaged : {T : Type 0} (result : Result T GateFault) → ¬ IsErrOf result Damaged → IfErr result (λ e. e ≢ Damaged)
@@ -96,11 +142,8 @@ module _ (old new : LogReader) (n : ℕ) (seen left : List (List ℕ)) (at : IsR
       let present : rest_of new ≡ body =
       ap (λ (l : List ℕ). take (new.to - new.from) (drop new.from l)) same ∙ ap (λ (j : ℕ). take j (drop new.from piece)) few ∙ ap (λ (j : ℕ). take n (drop j piece)) from
       ∙ ap (λ (l : List ℕ). take n l) (sym (drop-drop 5 old.to piece)) ∙ ap (λ (l : List ℕ). take n (drop 5 l)) first.spelling ∙ take_at body first.more n first.size in
-      let behind : new.to ≡ old.to + (5 + n) = omega (arith, from, to) in
       let size : length (batch body) ≡ 5 + n = omega (arith, first.size, length-append (to_be_bytes w32 (length body)) body) in
-      let rest : ahead_of new ≡ first.more =
-      ap (λ (l : List ℕ). drop new.to l) same ∙ ap (λ (j : ℕ). drop j piece) behind ∙ sym (drop-drop (5 + n) old.to piece) ∙ ap (λ (l : List ℕ). drop (5 + n) l) first.spelling
-      ∙ drop_at (batch body) first.more (5 + n) size in
+      let rest : ahead_of new ≡ first.more = over old new n same from to ∙ ap (λ (l : List ℕ). drop (5 + n) l) first.spelling ∙ drop_at (batch body) first.more (5 + n) size in
       let length_is : length (rest_of new) ≡ n = ap length present ∙ first.size in
       record {
         later = found.0;

@@ -1,15 +1,15 @@
 -- A walk over the batches of a log.
-use Rattle.std.proofs.Common.{◌≡◌, ◌≢◌, ◌≤◌, ◌+◌, ℕ, min, Result, IsErrOf, IfErr, List, [], ◌∷◌, ◌++◌, length, take, drop, refl, sym, ◌∙◌, ap, subst, arith, append_assoc, length-append, take-append-drop}
-use Rattle.std.proofs.lemmas.List.{drop_at, take_at, take_min, length-take, length-take-le, append_cancel_left}
+use Rattle.std.proofs.Common.{◌≡◌, ◌≢◌, ◌≤◌, ◌+◌, ℕ, Result, IsErrOf, IfErr, List, [], ◌∷◌, ◌++◌, length, take, drop, refl, sym, ◌∙◌, ap, subst, arith, append_assoc, length-append, take-append-drop}
+use Rattle.std.proofs.lemmas.List.{drop_at, length-take-le, append_cancel_left}
 use Rattle.std.specs.List.{flat_map, AllByRecursion}
 use Rattle.std.specs.Int.{w32, to_be_bytes}
 use Rattle.hg_disk.specs.declared.disk.Disk as disk
 use Rattle.hg_disk.specs.State.{DiskState, IsImage}
 use Rattle.hg_disk.specs.Moments.{LeavesOnly}
 use Rattle.hg_disk.proofs.Moments.{joined}
-use Rattle.hg_gate.specs.Batches.{header, open_gate, IsBody, IsBodyLength, sized, batch, spelled, IsLog}
+use Rattle.hg_gate.specs.Batches.{header, open_gate, IsBody, IsBodyLength, IsClosed, sized, batch, spelled, IsLog}
 use Rattle.hg_gate.specs.Reading.{WasRead}
-use Rattle.hg_gate.specs.Scan.{IsTail, IsOpen, Walked}
+use Rattle.hg_gate.specs.Scan.{EndsAt, IsTail, IsOpen, Walked}
 use Rattle.hg_gate.proofs.Crash.{spelled_push, each_push}
 use Rattle.hg_gate.proofs.Grammar.{sized_apart}
 use Rattle.hg_gate.proofs.Reading.{push_length}
@@ -120,14 +120,13 @@ few_walked file at bodies w has =
 pub no_log : (file : List ℕ) (at : ℕ) → Walked file at → ((bodies : List (List ℕ)) → IsTail (drop at file) bodies → ⊥) → (bodies : List (List ℕ)) → IsLog file bodies → ⊥
 no_log file at w none bodies has = let left = left_of file at bodies w has in none left.more left.is_tail
 
--- five bytes, or all that are left, read into a buffer
-pub read_front : (buf tail zeros : List ℕ) (room count : ℕ) → room ≡ length tail → count ≡ min room 5 → length zeros ≡ 5 → buf ≡ take (length (take count zeros)) tail → take count (buf ++ drop count zeros) ≡ take 5 tail
-read_front buf tail zeros room count room_is count_is five is =
-    let whole : length (take count zeros) ≡ count = omega (arith, length-take count zeros) in
-    let least : count ≡ min 5 (length tail) = omega arith in
-    let read : buf ≡ take count tail = is ∙ ap (λ (k : ℕ). take k tail) whole in
-    let size : length buf ≡ count = omega (arith, ap length read, length-take count tail) in
-    take_at buf (drop count zeros) count size ∙ read ∙ ap (λ (k : ℕ). take k tail) least ∙ take_min 5 tail
+-- a walk up to a closed gate
+pub ends : (file : List ℕ) (at : ℕ) → Walked file at → IsClosed (drop at file) → EndsAt file at
+ends file at w closed = record {
+  bodies = w.bodies;
+  has = record { gate = closed.gate; rest = closed.rest; spelling = w.front ∙ ap (λ (l : List ℕ). spelled w.bodies ++ l) closed.spelling; closed = closed.closed; each = w.each };
+  place = w.place;
+}
 
 -- what is known of an answer that is this fault
 pub told : {T E A : Type 0} (result : Result T E) (fault : E) → IsErrOf result fault → IfErr result (λ _. A) → A

@@ -10,7 +10,7 @@ ghost use Rattle.hg_gate.specs.Fault.{failures_after, IsBrokenOrDevice, IsDamage
 use crate::batch::{Batch, MAX_BODY_LEN};
 use crate::fault::GateFault;
 use crate::reader::LogReader;
-use crate::scan::{find_end, read_ahead};
+use crate::scan::{find_end, go_on};
 use hg_disk::{Disk, write_through};
 use std::alloc::{AllocError, Global};
 
@@ -120,8 +120,8 @@ impl<D: Disk> Log<D> {
     }
 
     /// The log that a disk holds, with the batches that its bytes have. A refusal hands the disk back: `Damaged` if the
-    /// bytes are not a log's, `DeviceFault` or `OutOfMemory`. It changes nothing, and reads five bytes per batch. If the
-    /// disk was synced before, the batches are durable.
+    /// bytes are not a log's, `DeviceFault` or `OutOfMemory`. It changes nothing, and reads the file by pieces of
+    /// `PIECE_LEN` bytes. If the disk was synced before, the batches are durable.
     pub fn attach(alloc: Global, disk: D) -> Result<Log<D>, (GateFault, D)>
         ensures reads { IsTrue D.is_honest → IfOk result ReadsSome }
         ensures has { IsTrue D.is_honest → IsDurable (D.state disk) → IfOk result HasSome }
@@ -140,7 +140,7 @@ impl<D: Disk> Log<D> {
             Err(AllocError) => return Err((GateFault::OutOfMemory, disk)),
         };
         let mut disk = disk;
-        match find_end(&mut disk) {
+        match find_end(&mut disk, alloc) {
             Ok(end) => Ok(Log {
                 disk,
                 end,
@@ -240,11 +240,7 @@ impl<D: Disk> Log<D> {
         if reader.next > self.disk.len() {
             return Err(GateFault::Damaged);
         }
-        if let Some(len) = reader.len_ahead() {
-            reader.turn(len);
-            return Ok(true);
-        }
         let alloc = *self.buffer.allocator();
-        read_ahead(&mut self.disk, alloc, reader)
+        go_on(&mut self.disk, alloc, reader)
     }
 }

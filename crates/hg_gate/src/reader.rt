@@ -22,12 +22,14 @@ pub struct LogReader {
 }
 
 impl LogReader {
-    ghost use Rattle.hg_gate.specs.Turning.{IsReadTo, StaysReadTo, TurnsOver, ahead_of, rest_of};
+    ghost use Rattle.hg_gate.specs.Turning.{IsReadTo, StaysReadTo, TurnsOver, WentOver, ahead_of, rest_of};
 
     /// A reader in front of the first batch. It takes no memory.
     pub(crate) fn new(alloc: Global) -> LogReader
         ensures first { (left : List (List ℕ)) → IsReadTo result [] left }
         ensures none { rest_of result ≡ [] }
+        ensures begins { result.next ≡ 8 }
+        ensures unread { ahead_of result ≡ [] }
     {
         LogReader {
             next: HEADER.len() as u64,
@@ -73,6 +75,7 @@ impl LogReader {
         requires whole { self.old.to + (5 + len) ≤ length self.old.piece.items }
         requires fits { self.old.next ≤ 2 ^ 62 }
         ensures turned { TurnsOver len self.old self.new }
+        ensures over { WentOver (5 + len) self.old self.new }
     {
         self.next += HEAD_LEN as u64 + u64::from(len);
         self.from = self.to + HEAD_LEN;

@@ -6,7 +6,7 @@ ghost use Rattle.hg_gate.specs.Batches.{IsBodyLength, IsNoLog, OneCallABatch};
 ghost use Rattle.hg_gate.specs.Fault.{failures_after, IsDamagedOrDevice};
 ghost use Rattle.hg_gate.specs.Reading.{WasRead};
 ghost use Rattle.hg_gate.specs.Scan.{EndsAt, HasBodyLength, IsHead, IsNoTail, TellsNoTail, Walked, batch_len};
-ghost use Rattle.hg_gate.specs.Turning.{TurnsIn};
+ghost use Rattle.hg_gate.specs.Turning.{GoesOn, TurnsIn, WalksOn};
 
 use crate::batch::MAX_BODY_LEN;
 use crate::fault::GateFault;
@@ -53,47 +53,53 @@ fn fits(len: u32, room: u64) -> bool
     1 <= len && len as usize <= MAX_BODY_LEN && 5 + (len as u64) < room
 }
 
-// Reads the head at this place: the length of a batch's body, or none at a closed gate.
-pub(crate) fn read_head<D: Disk>(disk: &mut D, at: u64) -> Result<Option<u32>, GateFault>
-    requires { at ≤ length (D.state disk.old).contents }
-    ensures within { IfOk result (λ found. at + batch_len found ≤ length (D.state disk.old).contents) }
-    ensures fits { IfOk result (λ found. at + batch_len found ≤ 2 ^ 62) }
-    ensures length { IfOk result HasBodyLength }
-    ensures head { IsTrue D.is_honest → IfOk result (IsHead (drop at (D.state disk.old).contents)) }
-    ensures damaged { TellsNoTail ⟦<D as Disk>⟧ at disk.old result }
-    ensures fault { IfErr result IsDamagedOrDevice }
-    ensures device { D.failures disk.new ≡ failures_after result (D.failures disk.old) }
-    ensures reads { WasRead ⟦<D as Disk>⟧ 1 disk.old disk.new }
-{
-    let room = disk.len() - at;
-    let count = room.min(HEAD_LEN as u64) as usize;
-    let mut head = [0; HEAD_LEN];
-    read_bytes(disk, at, &mut head[..count])?;
-    parse_head(&head[..count], room)
-}
-
 // The place of the first gate that is closed.
-pub(crate) fn find_end<D: Disk>(disk: &mut D) -> Result<u64, GateFault>
+pub(crate) fn find_end<D: Disk>(disk: &mut D, alloc: Global) -> Result<u64, GateFault>
     ensures found { IsTrue D.is_honest → IfOk result (EndsAt (D.state disk.old).contents) }
     ensures fits { IfOk result (λ at. at ≤ 2 ^ 62) }
     ensures damaged { IsTrue D.is_honest → IsErrOf result GateFault.Damaged → IsNoLog (D.state disk.old).contents }
-    ensures fault { IfErr result IsDamagedOrDevice }
+    ensures fault { IfErr result (λ e. IsDamagedOrDevice e ⊎ (e ≡ GateFault.OutOfMemory)) }
     ensures device { D.failures disk.new ≡ failures_after result (D.failures disk.old) }
     ensures reads { WasRead ⟦<D as Disk>⟧ (length (D.state disk.old).contents) disk.old disk.new }
     ensures one_a_batch { IsTrue D.is_honest → OneCallABatch ⟦<D as Disk>⟧ disk.old disk.new }
 {
     read_header(disk)?;
-    let mut at = HEADER.len() as u64;
-    while let Some(len) = read_head(disk, at)? {
-        at += (HEAD_LEN as u64) + len as u64;
+    let mut reader = LogReader::new(alloc);
+    while go_on(disk, alloc, &mut reader)? {}
+    Ok(reader.next)
+}
+
+// Makes the next batch the present one, if there is one. It calls the disk only where that batch was not read ahead
+// whole.
+pub(crate) fn go_on<D: Disk>(
+    disk: &mut D,
+    alloc: Global,
+    reader: &mut LogReader,
+) -> Result<bool, GateFault>
+    requires within { reader.old.next ≤ length (D.state disk.old).contents }
+    requires fits { reader.old.next ≤ 2 ^ 62 }
+    ensures next { IsTrue D.is_honest → TurnsIn (D.state disk.old).contents reader.old reader.new result }
+    ensures walks { WalksOn ⟦<D as Disk>⟧ disk.old reader.old reader.new result }
+    ensures within { GoesOn ⟦<D as Disk>⟧ disk.old reader.old reader.new result }
+    ensures whole { TellsNoTail ⟦<D as Disk>⟧ reader.old.next disk.old result }
+    ensures again { OnErr result (reader.new ≡ reader.old) }
+    ensures stays { result ≡ Ok false → reader.new ≡ reader.old }
+    ensures fault { IfErr result (λ e. IsDamagedOrDevice e ⊎ (e ≡ GateFault.OutOfMemory)) }
+    ensures device { D.failures disk.new ≡ failures_after result (D.failures disk.old) }
+    ensures reads { WasRead ⟦<D as Disk>⟧ 1 disk.old disk.new }
+{
+    if let Some(body_len) = reader.len_ahead() {
+        reader.turn(body_len);
+        return Ok(true);
     }
-    Ok(at)
+    read_ahead(disk, alloc, reader)
 }
 
 // `Damaged` if the file does not begin with the header.
 fn read_header<D: Disk>(disk: &mut D) -> Result<(), GateFault>
     ensures found { IsTrue D.is_honest → OnOk result (Walked (D.state disk.old).contents 8) }
     ensures within { OnOk result (8 ≤ length (D.state disk.old).contents) }
+    ensures fits { OnOk result (length (D.state disk.old).contents ≤ 2 ^ 62) }
     ensures damaged { IsTrue D.is_honest → IsErrOf result GateFault.Damaged → IsNoLog (D.state disk.old).contents }
     ensures fault { IfErr result IsDamagedOrDevice }
     ensures device { D.failures disk.new ≡ failures_after result (D.failures disk.old) }
@@ -143,13 +149,15 @@ pub(crate) fn read_vec<D: Disk>(
 }
 
 // Reads on from the place of the next batch, and makes that batch the present one, if there is one.
-pub(crate) fn read_ahead<D: Disk>(
+fn read_ahead<D: Disk>(
     disk: &mut D,
     alloc: Global,
     reader: &mut LogReader,
 ) -> Result<bool, GateFault>
     requires within { reader.old.next ≤ length (D.state disk.old).contents }
     ensures next { IsTrue D.is_honest → TurnsIn (D.state disk.old).contents reader.old reader.new result }
+    ensures walks { WalksOn ⟦<D as Disk>⟧ disk.old reader.old reader.new result }
+    ensures within { GoesOn ⟦<D as Disk>⟧ disk.old reader.old reader.new result }
     ensures whole { TellsNoTail ⟦<D as Disk>⟧ reader.old.next disk.old result }
     ensures again { OnErr result (reader.new ≡ reader.old) }
     ensures stays { result ≡ Ok false → reader.new ≡ reader.old }
