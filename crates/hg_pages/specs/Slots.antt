@@ -65,14 +65,6 @@ AreKnown segments sets cells = AllByRecursion (IsKnown segments sets) cells
 abbrev pub IsNoKnownSlot : (page segments : ℕ) → List (List ℕ) → (bytes : List ℕ) → Type 0
 IsNoKnownSlot page segments sets bytes = (cells : List Cell) → IsSlot page cells bytes → ¬ AreKnown segments sets cells
 
--- The bytes are this cell, and it names only known segments and sets.
-abbrev pub IsKnownCell : (segments : ℕ) → List (List ℕ) → (bytes : List ℕ) → Cell → Type 0
-IsKnownCell segments sets bytes cell = CellFits cell × IsKnown segments sets cell × (bytes ≡ cell_text cell)
-
--- They are no such cell.
-abbrev pub IsNoKnownCell : (segments : ℕ) → List (List ℕ) → (bytes : List ℕ) → Type 0
-IsNoKnownCell segments sets bytes = (cell : Cell) → CellFits cell → bytes ≡ cell_text cell → ¬ IsKnown segments sets cell
-
 -- The slot of the file has these bytes.
 abbrev pub HasBytes : ℕ → List ℕ → List ℕ → Type 0
 HasBytes slot bytes file = (length bytes ≡ 3080) × Holds file (3080 * slot) bytes

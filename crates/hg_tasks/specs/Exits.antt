@@ -1,5 +1,5 @@
 -- The exit status of commands that count races.
-use Rattle.std.specs.Prelude.{◌≡◌, ℕ, Bool, true, false, Option, None, Some, IfSome}
+use Rattle.std.specs.Prelude.{◌≡◌, ℕ, Bool, true, false, Option, None, IfSome}
 use Rattle.hg_options.specs.declared.task.ErrorExitcode.{ErrorExitcode}
 use Rattle.hg_check.specs.declared.checked.Checked.{Checked}
 use Rattle.hg_check.specs.Printing.{EndsChecked}
