@@ -23,6 +23,7 @@ use Rattle.hg_store.specs.Shown.{ShownStore, live}
 use Rattle.hg_desk.specs.declared.desk.Stage.{Stage}
 use Rattle.hg_desk.specs.declared.turn.TheConstants.{MOST_TURN}
 use Rattle.hg_desk.specs.declared.desk.Stage.TheVariants.{Greeting, Talking, Over}
+use Rattle.hg_desk.specs.declared.tasks.Turned.{Turned}
 use Rattle.hg_desk.specs.Going.{Began, WentOnSince}
 use Rattle.hg_desk.specs.Told.{Told, StepKept}
 
@@ -134,8 +135,8 @@ pub record TurnTold (is_honest : Bool) (frames : List Frame) (told new : Told) (
   pub share : ToldAccepted is_honest told new (accepted_by_all replies)
 
 -- Where there was room for the replies, the share is told of them, and else of nothing.
-abbrev pub ConverseTold : {X Z E : Type 0} → (is_honest : Bool) → List Frame → (told new : Told) → Result (X × Vec Reply Z) E → Type 0
-ConverseTold is_honest frames told new (Ok answered) = TurnTold is_honest frames told new answered.1.items
+abbrev pub ConverseTold : {E : Type 0} → (is_honest : Bool) → List Frame → (told new : Told) → Result Turned E → Type 0
+ConverseTold is_honest frames told new (Ok turned) = TurnTold is_honest frames told new turned.replies.items
 ConverseTold is_honest frames told new (Err error) = new ≡ told
 
 -- Frames are answered one after another, each as the conversation and the store stand by then.
@@ -163,25 +164,32 @@ AnswersTurn {D} g stage old new told told_after frames to replies =
 abbrev pub Conversed : {D Z E : Type 0} → disk.Ghosts D → Stage → (old new : ShownStore D) → (told told_after : Told) → List Frame → Stage → Result (Vec Reply Z) E → Type 0
 Conversed g stage old new told told_after frames to result = IfOk result (λ replies. AnswersTurn g stage old new told told_after frames to replies.items)
 
--- The same, where the stage is answered too.
-abbrev pub TurnKept : {D Z E : Type 0} → disk.Ghosts D → Stage → (old new : ShownStore D) → (told told_after : Told) → List Frame → Result (Stage × Vec Reply Z) E → Type 0
-TurnKept g stage old new told told_after frames result = IfOk result (λ r. AnswersTurn g stage old new told told_after frames r.0 r.1.items)
+-- how many events a store has accepted, as it tells it
+abbrev pub count_of : {D : Type 0} → disk.Ghosts D → ShownStore D → Result ℕ Refusal
+count_of g s = cond s.is_broken (Err Broken) (Ok (live g s).events)
+
+-- The same, where the stage is answered too, and how many events the store has then.
+abbrev pub TurnKept : {D E : Type 0} → disk.Ghosts D → Stage → (old new : ShownStore D) → (told told_after : Told) → List Frame → Result Turned E → Type 0
+TurnKept g stage old new told told_after frames result =
+    IfOk result (λ turned. AnswersTurn g stage old new told told_after frames turned.desk turned.replies.items × (turned.events ≡ count_of g new))
 
 -- The store that is shared had this state at some moment since the opening of the lock.
 abbrev pub HadSince : {D : Type 0} → disk.Ghosts D → Option Began → ShownStore D → Type 0
 HadSince {D} g opening s = (moments : List (Devices D)) × WentOnSince g opening moments s
 
--- Frames were answered under one hold of the lock, from a state that the store had there to one that it had then.
-pub record WasAnswered {D : Type 0} (g : disk.Ghosts D) (opening : Option Began) (stage : Stage) (told told_after : Told) (frames : List Frame) (to : Stage) (replies : List Reply) : Type 0 where
+-- Frames were answered under one hold of the lock, from a state that the store had there to one that it had then, with so many events.
+pub record WasAnswered {D : Type 0} (g : disk.Ghosts D) (opening : Option Began) (stage : Stage) (told told_after : Told) (frames : List Frame) (to : Stage) (replies : List Reply) (events : Result ℕ Refusal) : Type 0 where
   pub old : ShownStore D
   pub new : ShownStore D
   pub had : HadSince g opening old
   pub has : HadSince g opening new
   pub turn : AnswersTurn g stage old new told told_after frames to replies
+  pub counted : events ≡ count_of g new
 
 -- Where there was room for the replies, the frames were answered so.
-abbrev pub TurnAnswered : {D Z E : Type 0} → disk.Ghosts D → Option Began → Stage → (told told_after : Told) → List Frame → Result (Stage × Vec Reply Z) E → Type 0
-TurnAnswered g opening stage told told_after frames result = IfOk result (λ r. WasAnswered g opening stage told told_after frames r.0 r.1.items)
+abbrev pub TurnAnswered : {D E : Type 0} → disk.Ghosts D → Option Began → Stage → (told told_after : Told) → List Frame → Result Turned E → Type 0
+TurnAnswered g opening stage told told_after frames result =
+    IfOk result (λ turned. WasAnswered g opening stage told told_after frames turned.desk turned.replies.items turned.events)
 
 -- Nothing was changed where memory was refused.
 abbrev pub StillOnErr : {D T E : Type 0} → (old new : ShownStore D) → (told told_after : Told) → Result T E → Type 0

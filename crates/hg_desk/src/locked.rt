@@ -8,7 +8,7 @@ ghost use Rattle.hg_store.specs.Journal.{failed_after};
 ghost use Rattle.hg_store.specs.Shown.{HasCounted, live};
 ghost use Rattle.hg_store.specs.Store.{Backs};
 ghost use Rattle.hg_desk.specs.Blanks.{IsBlankOf};
-ghost use Rattle.hg_desk.specs.Conversation.{HadSince, MakesRoom, ReportsAnswer};
+ghost use Rattle.hg_desk.specs.Conversation.{HadSince, MakesRoom, ReportsAnswer, count_of};
 ghost use Rattle.hg_desk.specs.Going.{began};
 ghost use Rattle.hg_store.specs.declared.steps.Step.TheVariants as step;
 ghost use Rattle.hg_store.specs.declared.steps.StepResult.TheVariants as told;
@@ -332,7 +332,7 @@ impl<D: Disk, A: Opening, B: Column> Core<D, A, B> {
 
     /// How many events the store has accepted.
     pub fn events(&self) -> Result<u64, Refusal>
-        ensures { result ≡ cond self.now.is_broken (Err Broken) (Ok (live ⟦<D as Disk>⟧ self.now).events) }
+        ensures { result ≡ count_of ⟦<D as Disk>⟧ self.now }
     {
         self.store.events()
     }

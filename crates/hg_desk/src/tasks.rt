@@ -86,6 +86,17 @@ impl<D: Disk, A: Opening, B: Column> Task<D, A, B> for BeginTask {
     }
 }
 
+/// What frames of a conversation came to that were answered in one hold.
+#[derive(Drop)]
+pub struct Turned {
+    /// The conversation as it stands then.
+    pub desk: Desk,
+    /// A reply for each frame.
+    pub replies: Vec<Reply>,
+    /// How many events the store has accepted by then. It is `Broken` where a write, a cut or a sync has failed.
+    pub events: Result<u64, Refusal>,
+}
+
 /// Frames of a conversation, answered one after another in one hold. `turn_len` says how many those are.
 #[derive(Drop)]
 pub struct ConverseTask<'a> {
@@ -95,16 +106,12 @@ pub struct ConverseTask<'a> {
 }
 
 impl<'a, D: Disk, A: Opening, B: Column> Task<D, A, B> for ConverseTask<'a> {
-    type Out = Result<(Desk, Vec<Reply>), AllocError>;
+    type Out = Result<Turned, AllocError>;
 
     ghost promise = { λ t old new res. ConverseTold D.is_honest t.frames.now old new res × TurnAnswered ⟦<D as Disk>⟧ A.start t.desk old new t.frames.now res };
 
-    /// The conversation as it stands then, and a reply for each frame. Where memory for the replies is refused, nothing was changed.
-    fn run(
-        self,
-        core: &mut Core<D, A, B>,
-        share: &mut Share<A, B>,
-    ) -> Result<(Desk, Vec<Reply>), AllocError>
+    /// Where memory for the replies is refused, nothing was changed.
+    fn run(self, core: &mut Core<D, A, B>, share: &mut Share<A, B>) -> Result<Turned, AllocError>
         ensures promise { ConverseTold D.is_honest self.entry.frames.now share.old share.new result
             × TurnAnswered ⟦<D as Disk>⟧ A.start self.entry.desk share.old share.new self.entry.frames.now result }
         ensures turn { TurnKept ⟦<D as Disk>⟧ self.entry.desk core.old core.new share.old share.new
@@ -119,8 +126,13 @@ impl<'a, D: Disk, A: Opening, B: Column> Task<D, A, B> for ConverseTask<'a> {
         core.went_on();
         let answered = desk.answer_all(alloc, core, share, frames);
         core.went_on();
+        let events = core.events();
         match answered {
-            Ok(replies) => Ok((desk, replies)),
+            Ok(replies) => Ok(Turned {
+                desk,
+                replies,
+                events,
+            }),
             Err(error) => Err(error),
         }
     }

@@ -1,11 +1,11 @@
 -- A conversation as it goes on.
 use Rattle.std.proofs.Common.{◌≡◌, ◌++◌, ◌∙◌, ℕ, List, [], ◌∷◌, Bool, true, false, Option, Some, None, is_some, Result, Ok, Err, OnOk, OnErr, IsTrue, ap, append_assoc, inl, inr, refl, subst, sym}
 use Rattle.std.specs.Bool.{⊤}
-use Rattle.std.specs.List.{flat_map}
 use Rattle.std.proofs.lemmas.Bool.{false≢true}
 use Rattle.std.proofs.lemmas.Grind.{flat_map-append}
 use Rattle.std.proofs.lemmas.List.{append-nil}
 use Rattle.hg_disk.specs.declared.disk.Disk as disk
+use Rattle.hg_model.specs.declared.verdict.Refusal.{Refusal}
 use Rattle.hg_protocol.specs.declared.frame.Frame.{Frame}
 use Rattle.hg_protocol.specs.declared.message.FrameFault.{FrameFault}
 use Rattle.hg_protocol.specs.declared.reply.Reply.{Reply}
@@ -25,7 +25,7 @@ use Rattle.hg_desk.specs.Told.{Told}
 use Rattle.hg_desk.specs.declared.desk.Stage.{Stage}
 use Rattle.hg_desk.specs.declared.desk.Stage.TheVariants.{Greeting}
 use Rattle.hg_server.specs.Replying.{replies_text}
-use Rattle.hg_server.specs.Talking.{IsTalk, Turn, WasTalk, frames_of, frames_text, grammar, sent_for}
+use Rattle.hg_server.specs.Talking.{IsTalk, WasTalk, frames_of, frames_text, grammar, sent_for}
 
 -- of what was to be held, this much is
 pub due_moved : (first writes : List WriteCall) (held new rest text goal : List ℕ) → new ++ rest ≡ held ++ text → IsDue first writes held text goal → IsDue first writes new rest goal
@@ -56,14 +56,14 @@ left_of (Some fault) rest new none is = absurd (false≢true (sym none))
 
 module _ {D : Type 0} (g : disk.Ghosts D) (opening : Option Began) where
   -- frames that wait are answered
-  pub answered_on : (stage to : Stage) (reads : List ReadCall) (writes : List WriteCall) (held : List ℕ) (turn waiting : List Frame) (tail : List ℕ) (replies : List Reply) (told told_after : Told)
-      → WasAnswered g opening stage told told_after turn to replies → IsTalk g opening stage reads writes held [] (turn ++ waiting) tail
+  pub answered_on : (stage to : Stage) (reads : List ReadCall) (writes : List WriteCall) (held : List ℕ) (turn waiting : List Frame) (tail : List ℕ) (replies : List Reply) (events : Result ℕ Refusal) (told told_after : Told)
+      → WasAnswered g opening stage told told_after turn to replies events → IsTalk g opening stage reads writes held [] (turn ++ waiting) tail
       → IsTalk g opening to reads writes held (replies_text replies) waiting tail
-  answered_on stage to reads writes held turn waiting tail replies told told_after is p =
+  answered_on stage to reads writes held turn waiting tail replies events told told_after is p =
       let before = frames_of p.turns in
       record {
         turns = record { frames = turn; replies = replies } ∷ p.turns;
-        answered = (stage, p.answered, told, told_after, is);
+        answered = (stage, p.answered, told, told_after, events, is);
         heard = p.heard
             ∙ ap (λ (t : List ℕ). frames_text before ++ (t ++ tail)) (flat_map-append (frame_text grammar) turn waiting)
             ∙ ap (λ (t : List ℕ). frames_text before ++ t) (append_assoc (frames_text turn) (frames_text waiting) tail)

@@ -1,7 +1,8 @@
 -- What a client and a worker say to each other.
-use Rattle.std.specs.Prelude.{◌≡◌, ◌⊎◌, ◌++◌, ℕ, List, [], ◌∷◌, Option, Some}
+use Rattle.std.specs.Prelude.{◌≡◌, ◌⊎◌, ◌++◌, ℕ, List, [], ◌∷◌, Option, Some, Result}
 use Rattle.std.specs.List.{flat_map}
 use Rattle.hg_disk.specs.declared.disk.Disk as disk
+use Rattle.hg_model.specs.declared.verdict.Refusal.{Refusal}
 use Rattle.hg_protocol.specs.declared.frame.Frame.{Frame}
 use Rattle.hg_protocol.specs.declared.message.FrameFault.{FrameFault}
 use Rattle.hg_protocol.specs.declared.message.Message as message
@@ -53,7 +54,9 @@ module _ {D : Type 0} (g : disk.Ghosts D) (opening : Option Began) where
   -- Turns, the newest first. Each was answered over the store, from the stage to which the ones before it led.
   abbrev pub AreTurns : List Turn → Stage → Type 0
   AreTurns [] stage = stage ≡ Greeting
-  AreTurns (turn ∷ earlier) stage = (from : Stage) × AreTurns earlier from × (told : Told) × (told_after : Told) × WasAnswered g opening from told told_after turn.frames stage turn.replies
+  AreTurns (turn ∷ earlier) stage =
+      (from : Stage) × AreTurns earlier from × (told : Told) × (told_after : Told) × (events : Result ℕ Refusal)
+      × WasAnswered g opening from told told_after turn.frames stage turn.replies events
 
   -- A conversation so far. What was read are the frames of its turns, those that wait, and the tail. What was written, what is held and
   -- the rest, which is not held yet, are the replies to its turns.
@@ -118,6 +121,10 @@ module _ {D : Type 0} (g : disk.Ghosts D) (opening : Option Began) where
     Takes old new piece going = IsAt old [] (old.feed.left ++ piece) → Ends going new
 
 module _ {S : Type 0} where
+  -- What was read stays, and how far the conversation is.
+  abbrev pub StaysRead : (old new : Talk S) → Type 0
+  StaysRead old new = (new.wire.reads ≡ old.wire.reads) × (new.desk ≡ old.desk) × (new.feed ≡ old.feed)
+
   -- What is due stays due.
   abbrev pub StaysDue : (old new : Talk S) → Type 0
   StaysDue old new = (goal : List ℕ) → IsDue [] old.wire.writes old.replies.items [] goal → IsDue [] new.wire.writes new.replies.items [] goal

@@ -28,9 +28,14 @@ pub struct Due {
 }
 
 impl Due {
+    /// From how many durable events on a checkpoint is due.
+    fn next(&self) -> u64 {
+        self.begun.saturating_add(self.every)
+    }
+
     /// Whether a checkpoint is due when so many events are durable.
     fn is_due(&self, count: u64) -> bool {
-        count >= self.begun.saturating_add(self.every)
+        count >= self.next()
     }
 }
 
@@ -61,6 +66,15 @@ impl<'a, D: Disk, A: Opening, B: Column, G: Gate, R: Wait> Round<'a, D, A, B, G,
             Pass::Go => Course::GoOn,
             Pass::Stop => Course::Stop,
         }
+    }
+
+    /// Tells the workers when to nudge: where the next checkpoint is due, or at each Ack where one in progress is held up.
+    fn tell_due(&self) {
+        let events = match self.phase {
+            StorePhase::Idle | StorePhase::Pending => self.due.next(),
+            _ => 0,
+        };
+        self.seat.terms.note_due_from(events);
     }
 
     /// What a step that was not made leads to: a store that is broken ends the flusher, and in another phase the round goes on from there.
@@ -133,6 +147,7 @@ impl<'a, D: Disk, A: Opening, B: Column, G: Gate, R: Wait> Round<'a, D, A, B, G,
         {
             Ok(count) => {
                 self.due.begun = count;
+                self.seat.terms.note_due_from(self.due.next());
                 self.phase = StorePhase::Flushing;
                 Course::GoOn
             }
@@ -272,6 +287,7 @@ impl<'a, D: Disk, A: Opening, B: Column, G: Gate, R: Wait> Round<'a, D, A, B, G,
 
 /// Makes checkpoints, until its channel is closed and empty, the gate says stop or the store is broken, and gives the share back. At a
 /// nudge it goes on with the checkpoint that a refusal has held up. Where none is in progress, it begins one, with a commit, if it is due.
+/// It tells the workers from how many events on it wants to be nudged: a nudge that comes meanwhile waits in the channel.
 /// Each step is made in a hold of the lock of its own, and pages are encoded outside of it, so clients are answered meanwhile. It offers no
 /// event. Where the store is broken it notes that, at the latest when no nudge came for a second.
 ///
@@ -289,12 +305,14 @@ pub fn flusher<D: Disk, A: Opening, B: Column, G: Gate, R: Wait + Clock>(
         due,
         phase: StorePhase::Idle,
     };
+    round.tell_due();
     for _ in rt.forever() {
         match nudges.recv_timeout(rt, Duration::from_millis(WATCH_MILLISECONDS)) {
             Ok(()) => {
                 if round.run() == Pass::Stop {
                     break;
                 }
+                round.tell_due();
             }
             Err(RecvTimeoutError::Timeout) => round.watch(),
             Err(RecvTimeoutError::Disconnected) => break,

@@ -1,15 +1,14 @@
 //! Whether the store of a server works, as its threads see it.
 
-ghost use Rattle.std.specs.Prelude.{◌≡◌, Ok, Err, cond};
-ghost use Rattle.hg_model.specs.declared.verdict.Refusal.TheVariants.{Broken};
-ghost use Rattle.hg_store.specs.Shown.{live};
+ghost use Rattle.std.specs.Prelude.{◌≡◌};
+ghost use Rattle.hg_desk.specs.Conversation.{count_of};
 
 use hg_desk::locked::Core;
 use hg_desk::share::{Column, Opening, Share};
 use hg_desk::tasks::Task;
 use hg_disk::Disk;
 use hg_model::verdict::Refusal;
-use std::sync::atomic::{AtomicBool, Ordering};
+use std::sync::atomic::{AtomicBool, AtomicU64, Ordering};
 use std::time::Duration;
 
 /// What the threads of a server know of its store. No contract rests on it: it tells when a server ends, and not what it answers.
@@ -43,14 +42,30 @@ pub struct Terms {
     /// How long a client may be silent, or for ever.
     pub(crate) silence: Option<Duration>,
     pub(crate) health: Health,
+    /// From how many events on the flusher wants to be nudged. No contract rests on it.
+    due_from: AtomicU64,
 }
 
 impl Terms {
-    /// These, with a store that works.
+    /// These, with a store that works, and a flusher that wants to be nudged until it says otherwise.
     pub fn new(silence: Option<Duration>) -> Terms {
         Terms {
             silence,
             health: Health::new(),
+            due_from: AtomicU64::new(0),
+        }
+    }
+
+    /// Notes from how many events on the flusher wants to be nudged.
+    pub(crate) fn note_due_from(&self, events: u64) {
+        self.due_from.store(events, Ordering::SeqCst);
+    }
+
+    /// Whether the flusher wants to be nudged when a store has so many events. It does not where the store is broken.
+    pub(crate) fn is_due(&self, events: &Result<u64, Refusal>) -> bool {
+        match events {
+            Ok(events) => *events >= self.due_from.load(Ordering::SeqCst),
+            Err(_) => false,
         }
     }
 }
@@ -66,7 +81,7 @@ impl<D: Disk, A: Opening, B: Column> Task<D, A, B> for EventsTask {
 
     fn run(self, core: &mut Core<D, A, B>, share: &mut Share<A, B>) -> Result<u64, Refusal>
         ensures promise { share.new ≡ share.old }
-        ensures events { result ≡ cond core.old.is_broken (Err Broken) (Ok (live ⟦<D as Disk>⟧ core.old).events) }
+        ensures events { result ≡ count_of ⟦<D as Disk>⟧ core.old }
         ensures same { core.new ≡ core.old }
     {
         core.events()

@@ -4,7 +4,7 @@ ghost use Rattle.std.specs.Prelude.{◌≡◌, ◌≤◌, ◌++◌, ◌∷◌, �
 ghost use Rattle.hg_protocol.specs.Spelling.{FitsFrames};
 ghost use Rattle.hg_streams.specs.declared.call.WriteCall.TheVariants as call;
 ghost use Rattle.hg_server.specs.Replying.{replies_text};
-ghost use Rattle.hg_server.specs.Talking.{Answered, Carries, Ends, IsCutBehind, IsNew, LeavesFront, StaysDue, Takes, TellsFault};
+ghost use Rattle.hg_server.specs.Talking.{Answered, Carries, Ends, IsCutBehind, IsNew, LeavesFront, StaysDue, StaysRead, Takes, TellsFault};
 
 use crate::health::Terms;
 use crate::patience::{Patience, may_read_on};
@@ -14,7 +14,7 @@ use crossbeam_channel::{Receiver, Sender};
 use hg_desk::desk::Desk;
 use hg_desk::share::{Column, Opening, Share};
 use hg_desk::shared::Shared;
-use hg_desk::tasks::ConverseTask;
+use hg_desk::tasks::{ConverseTask, Turned};
 use hg_desk::turn::turn_len;
 use hg_disk::Disk;
 use hg_protocol::feed::Feed;
@@ -161,7 +161,8 @@ impl<'a, S> Talk<'a, S> {
     }
 
     /// Answers a turn of frames under one hold of the lock, and holds the replies back. Behind an Ack, and where the turn made events durable, it
-    /// nudges the flusher. Tells whether the conversation goes on: it ends behind a Bye, and where no memory is left for the replies.
+    /// nudges the flusher if a checkpoint is due. Tells whether the conversation goes on: it ends behind a Bye, and where no memory is left for
+    /// the replies.
     fn answer<D: Disk, A: Opening, B: Column, G, R: Wait>(
         &mut self,
         seat: &mut Seat<D, A, B, G, R>,
@@ -179,12 +180,21 @@ impl<'a, S> Talk<'a, S> {
             frames: turn,
         };
         let durable = seat.share.durable();
-        let Ok((desk, replies)) = seat.shared.hold(seat.rt, &mut seat.share, task) else {
+        let Ok(
+            Turned {
+                desk,
+                replies,
+                events,
+            },
+        ) = seat.shared.hold(seat.rt, &mut seat.share, task)
+        else {
             return false;
         };
         self.desk = desk;
         let replies = replies.as_slice();
-        if durable < seat.share.durable() || is_acknowledged(replies) {
+        if (durable < seat.share.durable() || is_acknowledged(replies))
+            && seat.terms.is_due(&events)
+        {
             self.nudge(seat.rt);
         }
         if !put_replies(replies, &mut self.replies) {
@@ -200,7 +210,7 @@ impl<'a, S: Write> Talk<'a, S> {
         ensures took { IsTrue result → self.new.wire.writes ≡ call.Took self.old.replies.items ∷ self.old.wire.writes }
         ensures torn { result ≡ false → self.new.wire.writes ≡ call.Torn self.old.replies.items ∷ self.old.wire.writes }
         ensures none { self.new.replies.items ≡ [] }
-        ensures same { (self.new.wire.reads ≡ self.old.wire.reads) × (self.new.desk ≡ self.old.desk) × (self.new.feed ≡ self.old.feed) }
+        ensures same { StaysRead self.old self.new }
     {
         let is_written = self.wire.write(self.replies.as_slice()).is_ok();
         self.was_answered = self.was_answered || !self.replies.is_empty();
@@ -212,7 +222,7 @@ impl<'a, S: Write> Talk<'a, S> {
     fn write_many(&mut self) -> bool
         ensures due { IsTrue result → StaysDue self.old self.new }
         ensures front { result ≡ false → LeavesFront self.old self.new }
-        ensures same { (self.new.wire.reads ≡ self.old.wire.reads) × (self.new.desk ≡ self.old.desk) × (self.new.feed ≡ self.old.feed) }
+        ensures same { StaysRead self.old self.new }
     {
         if self.replies.len() < PIECE_BYTES {
             return true;
@@ -332,8 +342,8 @@ fn converse<D: Disk, A: Opening, B: Column, S: Read + Write + Drop, G: Gate, R: 
 
 /// Holds the conversations of a channel, one after another, until it is closed and empty or the gate says stop, and gives the share
 /// back. A connection is one value that is read and written; it is closed when its conversation ends. One that fails ends alone.
-/// What it reads into is taken before it begins, so it never ends for want of memory; a conversation may. Behind each Ack it leaves a nudge for
-/// the flusher, if none waits.
+/// What it reads into is taken before it begins, so it never ends for want of memory; a conversation may. Behind an Ack it leaves a nudge for
+/// the flusher, if a checkpoint is due and no nudge waits.
 ///
 /// It waits for the lock, for connections, and in reads and writes.
 pub fn worker<D: Disk, A: Opening, B: Column, S: Read + Write + Drop, G: Gate, R: Wait + Clock>(

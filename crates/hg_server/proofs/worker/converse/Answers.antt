@@ -1,4 +1,4 @@
-use Rattle.std.proofs.Common.{rules, arith}
+use Rattle.std.proofs.Common.{arith}
 use Rattle.hg_server.proofs.Talking.{begun}
 use Rattle.hg_server.proofs.worker.converse.Goals as goal
 

@@ -1,6 +1,4 @@
-use Rattle.std.proofs.Common.{rules, ◌≡◌, ◌⊎◌, inl, inr, ◌+◌, ◌<◌, ℕ, IsTrue, ap, refl, subst, sym, ◌∙◌, arith}
-use Rattle.hg_model.specs.declared.verdict.Refusal.{Refusal}
-use Rattle.hg_detect.specs.declared.detector.Answer.{Answer}
+use Rattle.std.proofs.Common.{rules, ◌≡◌, ◌⊎◌, inl, inr, ◌+◌, ◌<◌, ℕ, IsTrue, ap, refl, subst, ◌∙◌, arith}
 use Rattle.hg_store.specs.Doing.{fails_by}
 use Rattle.hg_store.specs.Shown.{ShownStore}
 use Rattle.hg_store.specs.declared.steps.Step.TheVariants.{Offer}

@@ -14,5 +14,6 @@ returns-in-Ok-clause-promise g c = (
     had = c.went_on.ensures;
     has = c.went_on-2.ensures;
     turn = c.in-Ok.ensures.ok;
+    counted = c.events-events.ensures;
   },
 )

@@ -1,4 +1,4 @@
-use Rattle.std.proofs.Common.{rules, ◌≡◌, ◌++◌, ℕ, List, [], true, false, subst, sym}
+use Rattle.std.proofs.Common.{rules, ◌≡◌, ◌++◌, List, [], true, false, subst, sym}
 use Rattle.std.proofs.lemmas.List.{take-append-drop}
 use Rattle.hg_protocol.specs.declared.frame.Frame.{Frame}
 use Rattle.hg_streams.specs.declared.call.ReadCall.{ReadCall}

@@ -1,8 +1,7 @@
-use Rattle.std.proofs.Common.{rules, ◌≡◌, ◌++◌, ◌∙◌, ℕ, List, [], Option, true, false, ap, is_some, refl, subst, sym}
+use Rattle.std.proofs.Common.{rules, ◌≡◌, ◌++◌, ◌∙◌, ℕ, List, [], true, false, ap, is_some, refl, subst, sym}
 use Rattle.hg_protocol.specs.declared.frame.Frame.{Frame}
 use Rattle.hg_protocol.specs.Streams.{FramesRead}
 use Rattle.hg_streams.specs.declared.call.ReadCall.{ReadCall}
-use Rattle.hg_streams.specs.Holding.{IsDue}
 use Rattle.hg_streams.proofs.Printed.{due_written, front_due, took_by}
 use Rattle.hg_server.specs.Talking.{Follows, IsTalk, WasTalk, frames_text}
 use Rattle.hg_server.specs.declared.worker.Course.{Course}
