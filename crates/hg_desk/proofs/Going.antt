@@ -1,5 +1,5 @@
 -- Each step goes on from the store before it.
-use Rattle.std.proofs.Common.{◌≡◌, inl, inr, ◌≤◌, ◌++◌, ◌+◌, ℕ, List, [], ◌∷◌, map, Bool, true, false, if◌then◌else◌, Option, Some, None, Ok, Err, Result, IsTrue, refl, sym, ap, ◌∙◌, subst, arith}
+use Rattle.std.proofs.Common.{◌≡◌, inl, inr, ◌≤◌, ◌++◌, ◌+◌, ℕ, List, [], ◌∷◌, map, Bool, true, false, if◌then◌else◌, Some, None, Ok, Err, Result, IsTrue, refl, sym, ap, ◌∙◌, subst, arith}
 use Rattle.hg_model.specs.declared.verdict.Refusal.{Refusal}
 use Rattle.hg_model.specs.declared.verdict.Refusal.TheVariants as refusal
 use Rattle.hg_model.specs.Contents.{Content}

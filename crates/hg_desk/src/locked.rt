@@ -218,11 +218,12 @@ impl<D: Disk, A: Opening, B: Column> Core<D, A, B> {
         let (durable, mut durable_rest) = durable.open::<B>();
         let mut acks = acks.open::<A>();
         for _i in 0..shares {
-            all.push_reserved(Share::none(
+            let share = Share::none(
                 accepted_rest.split_off(1, 0),
                 durable_rest.split_off(1, 0),
                 acks.none(),
-            ));
+            );
+            all.push_reserved(share);
         }
         let core = Core {
             store,

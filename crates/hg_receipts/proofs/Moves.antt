@@ -1,12 +1,12 @@
 -- Each step keeps the receipts.
-use Rattle.std.proofs.Common.{◌≡◌, ◌≢◌, ◌⊎◌, inl, inr, ℕ, zero, suc, List, [], ◌∷◌, ◌++◌, set, Bool, true, false, true≢false, refl, sym, ap, ◌∙◌, subst, ⊎_elim, append-nil}
-use mathlib.Core.Option.{Option, some, none, some-ne-none, some-injective}
+use Rattle.std.proofs.Common.{◌≡◌, ◌≢◌, inl, inr, ℕ, zero, suc, List, [], ◌∷◌, ◌++◌, set, true, false, true≢false, refl, sym, ap, ◌∙◌, subst, ⊎_elim}
+use mathlib.Core.Option.{Option, some, some-ne-none, some-injective}
 use lib.ListN.{get_elem?}
-use Rattle.atomic_table.specs.Table.{Allows, Joins, Me, Splits, State, keeps, opening, step}
-use Rattle.atomic_table.proofs.Lists.{at_set, at_snoc, set_again}
+use Rattle.atomic_table.specs.Table.{Allows, Joins, Me, Splits, keeps, opening, step}
+use Rattle.atomic_table.proofs.Lists.{at_set, at_snoc}
 use Rattle.hg_receipts.specs.declared.view.Acked.{Acked}
 use Rattle.hg_receipts.specs.declared.view.View.{View}
-use Rattle.hg_receipts.specs.Receipts.{AreAmong, Compared, Has, IsKept, Noted, emptied, holder, joined, knower, receipts_of}
+use Rattle.hg_receipts.specs.Receipts.{AreAmong, Compared, IsKept, Noted, emptied, holder, joined, knower, receipts_of}
 
 -- what the rule says of one view
 abbrev Fits : ℕ → List Acked → ℕ → View → Type 0

@@ -150,8 +150,8 @@ store_send D g d = view_send _ _ _ _ _ (recorded_send _ _ _ (within.the_type D g
 
 module _ (D A B : RattleType) (g : disk.Ghosts D.Denot) (o : opening.Ghosts A.Denot) (c : column.Ghosts A.Denot)
     (l : ledger.Ghosts A.Denot) (r : room.Ghosts A.Denot) (c' : column.Ghosts B.Denot) (l' : ledger.Ghosts B.Denot) where
-  core_parts : IsSend D → IsSend A → AllSend (shape (locked.the_type D A B g o c l r c' l')).fields
-  core_parts d a = (
+  core_parts : IsSend D → AllSend (shape (locked.the_type D A B g o c l r c' l')).fields
+  core_parts d = (
     store_send D g d,
     (
       book.the_send A l,
@@ -159,18 +159,18 @@ module _ (D A B : RattleType) (g : disk.Ghosts D.Denot) (o : opening.Ghosts A.De
         book.the_send B l',
         (
           search (sendable, crosses) depth 20,
-          (search (sendable, crosses) depth 20, (search (sendable, crosses, knot.crosses) depth 20, (search (sendable, crosses) depth 20, (register.the_send _ _ a, tt)))),
+          (search (sendable, crosses) depth 20, (search (sendable, crosses, knot.crosses) depth 20, (search (sendable, crosses) depth 20, (register.the_send A r, tt)))),
         ),
       ),
     ),
   )
 
-  core_send : IsSend D → IsSend A → IsSend (core.the_row D A B g o c l r c' l')
-  core_send d a =
-      view_send _ _ _ _ _ (recorded_send _ _ _ (locked.the_type D A B g o c l r c' l').to_one (struct_send (shape (locked.the_type D A B g o c l r c' l')) (core_parts d a)))
+  core_send : IsSend D → IsSend (core.the_row D A B g o c l r c' l')
+  core_send d =
+      view_send _ _ _ _ _ (recorded_send _ _ _ (locked.the_type D A B g o c l r c' l').to_one (struct_send (shape (locked.the_type D A B g o c l r c' l')) (core_parts d)))
 
-  pub shared_sync : IsSend D → IsSend A → IsSync (shared.the_row D A B g o c l r c' l')
-  shared_sync d a = let value = core_send d a in search (value, sendable, crosses) depth 60 fits 20000
+  pub shared_sync : IsSend D → IsSync (shared.the_row D A B g o c l r c' l')
+  shared_sync d = let value = core_send d in search (value, sendable, crosses) depth 60 fits 20000
 
 -- A closure crosses threads where all that it captures does.
 module _ (name : Sym) (captured : List RattleType) where

@@ -18,7 +18,7 @@ loop-i-preserved g c = record {
   count = search rules;
   room = search rules;
   none = rw c.push_reserved.ensures.items
-      (All-append IsNone c.loop-i.all.items (c.none.result ∷ []) c.loop-i.invariant.none (All-cons IsNone c.none.result [] c.none.ensures (λ k d lt. absurd (omega arith))));
+      (All-append IsNone c.loop-i.all.items (c.none-share.result ∷ []) c.loop-i.invariant.none (All-cons IsNone c.none-share.result [] c.none-share.ensures (λ k d lt. absurd (omega arith))));
   books = search rules;
   acks = search rules;
 }

@@ -16,10 +16,9 @@ use Rattle.hg_server.proofs.serving.fn.run_workers.join+arg2.Goals as goal
 pub map_vec-requires-sync-F : goal.map_vec-requires-sync-F
 map_vec-requires-sync-F g c κs within =
     let device : IsSend g.row.D = search (rules, c.requires) parts 8 in
-    let books : IsSend g.row.A = search (rules, c.requires) parts 8 in
     let clock : IsSync g.row.R = search (rules, c.requires) parts 8 in
     let gate : IsSync g.row.G = search (rules, c.requires) parts 8 in
-    let shared = shared_sync (param 0 g.row.D) (param 1 g.row.A) (param 2 g.row.B) g.D.Disk g.A.Opening g.A.Column g.A.Ledger g.A.Room g.B.Column g.B.Ledger (param_send 0 g.row.D device) (param_send 1 g.row.A books) in
+    let shared = shared_sync (param 0 g.row.D) (param 1 g.row.A) (param 2 g.row.B) g.D.Disk g.A.Opening g.A.Column g.A.Ledger g.A.Room g.B.Column g.B.Ledger (param_send 0 g.row.D device) in
     let queue = receiver.the_sync _ _ _ stream.the_send heap.the_send heap.the_sync allocator.the_frees in
     let nothing : IsSend unit = search (sendable, crosses) depth 20 in
     let nudges = sender.the_sync _ _ _ nothing heap.the_send heap.the_sync allocator.the_frees in
