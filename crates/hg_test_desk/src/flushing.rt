@@ -329,9 +329,9 @@ fn run_over<A: Opening + Send + Sync, B: Column + Send + Sync, R: Threads + Wait
     requires opening { ((live ⟦<MemDisk as Disk>⟧ store).events ≡ A.opening) × (store.durable ≡ B.opening) }
     requires start { IfSome A.start (λ start. start ≡ began ⟦<MemDisk as Disk>⟧ store) }
 {
-    let Ok((shared, mut shares)) =
-        Shared::<MemDisk, A, B>::new(alloc, store, accepted, durable, acks, 2)
-    else {
+    let Ok((shared, mut shares)) = Shared::<MemDisk, A, B>::new(
+        alloc, store, accepted, durable, acks, 2,
+    ) else {
         out.put(b"no memory\n");
         return;
     };

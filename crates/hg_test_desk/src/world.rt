@@ -229,9 +229,9 @@ fn run_over<A: Opening, B: Column>(
     requires opening { ((live ⟦<MemDisk as Disk>⟧ store).events ≡ A.opening) × (store.durable ≡ B.opening) }
     requires start { IfSome A.start (λ start. start ≡ began ⟦<MemDisk as Disk>⟧ store) }
 {
-    let Ok((core, mut shares)) =
-        Core::<MemDisk, A, B>::open(alloc, store, accepted, durable, acks, 1)
-    else {
+    let Ok((core, mut shares)) = Core::<MemDisk, A, B>::open(
+        alloc, store, accepted, durable, acks, 1,
+    ) else {
         out.put(b"no memory\n");
         return;
     };
