@@ -363,7 +363,11 @@ fn run_new<R: Threads + Wait + Clock + Sync>(
     sent: &[u8],
     out: &mut Text,
 ) {
-    let (Some(store), Ok(acks)) = (empty_store(alloc), BlankRegister::new(alloc)) else {
+    let Some(store) = empty_store(alloc) else {
+        out.put(b"no memory\n");
+        return;
+    };
+    let Ok(acks) = BlankRegister::new(alloc) else {
         out.put(b"no memory\n");
         return;
     };

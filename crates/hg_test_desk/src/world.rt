@@ -245,7 +245,11 @@ fn run_over<A: Opening, B: Column>(
 
 /// Runs the lines of one part over a store of its own.
 pub fn run_store(alloc: Global, part: &str, out: &mut Text) {
-    let (Some(store), Ok(acks)) = (empty_store(alloc), BlankRegister::new(alloc)) else {
+    let Some(store) = empty_store(alloc) else {
+        out.put(b"no memory\n");
+        return;
+    };
+    let Ok(acks) = BlankRegister::new(alloc) else {
         out.put(b"no memory\n");
         return;
     };
