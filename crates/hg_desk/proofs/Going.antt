@@ -1,8 +1,16 @@
 -- Each step goes on from the store before it.
-use Rattle.std.proofs.Common.{◌≡◌, inl, inr, ◌≤◌, ◌++◌, ℕ, List, [], ◌∷◌, map, Bool, Ok, Err, Result, IsTrue, refl, sym, ap, ◌∙◌, subst, arith}
+use Rattle.std.proofs.Common.{◌≡◌, inl, inr, ◌≤◌, ◌++◌, ◌+◌, ℕ, List, [], ◌∷◌, map, Bool, true, false, if◌then◌else◌, Some, None, Ok, Err, Result, IsTrue, refl, sym, ap, ◌∙◌, subst, arith}
 use Rattle.hg_model.specs.declared.verdict.Refusal.{Refusal}
 use Rattle.hg_model.specs.declared.verdict.Refusal.TheVariants as refusal
 use Rattle.hg_model.specs.Contents.{Content}
+use Rattle.hg_model.specs.Change.{after, followed, is_accept}
+use Rattle.hg_model.specs.Verdicts.{standing_of, verdict}
+use Rattle.hg_model.specs.declared.event.Named.{Named}
+use Rattle.hg_model.specs.declared.verdict.Verdict.{Verdict}
+use Rattle.hg_model.specs.declared.verdict.Verdict.TheVariants.{Accept, Duplicate, Refuse}
+use Rattle.std.specs.Option.{option_and_then}
+use Rattle.std.specs.Prelude.{◌==◌}
+use Rattle.hg_receipts.specs.declared.view.Acked.{Acked}
 use Rattle.hg_disk.specs.declared.disk.Disk as disk
 use Rattle.hg_detect.specs.Shown as detect
 use Rattle.hg_pool.specs.Maps as pools
@@ -23,12 +31,35 @@ use Rattle.hg_store.specs.Steps.{CommitDone, if_accepted}
 use Rattle.hg_store.specs.Store.{Backs}
 use Rattle.hg_store.proofs.Moments.{all_still}
 use Rattle.hg_desk.specs.Going.{Began, LeadsTo, Point, WentOn, began, of_points, oldest, points_of}
+use Rattle.hg_desk.specs.Told.{HasAcked}
+
+one_more : (b : Bool) (k : ℕ) → k ≤ (if b then k + 1 else k)
+one_more true k = omega arith
+one_more false k = omega arith
+
+last_after : (c : Content) (n : Named) (s : ℕ) → c.last s ≤ (after c n).last s
+last_after c n s = one_more (n.source == s) (c.last s)
 
 pub nowhere : (c : Content) → LeadsTo c c
 nowhere c = ([], refl)
 
 pub further : (a b c : Content) → LeadsTo a b → LeadsTo b c → LeadsTo a c
 further a b c one two = (one.0 ++ two.0, followed_append one.0 two.0 a b one.1 ∙ two.1)
+
+lasts_behind : (xs : List Named) (c d : Content) (n : Named) (s : ℕ) → ((e : Content) → followed e xs ≡ Some d → e.last s ≤ d.last s)
+    → (v : Verdict) → option_and_then (λ (e : Content). followed e xs) (if is_accept v then Some (after c n) else None) ≡ Some d → c.last s ≤ d.last s
+lasts_behind xs c d n s more Accept is = let rest = more (after c n) is in let one = last_after c n s in omega (arith, rest, one)
+lasts_behind xs c d n s more (Duplicate last) is = absurd (cc)
+lasts_behind xs c d n s more (Refuse refusal) is = absurd (cc)
+
+-- the last number of a source never falls
+last_on : (xs : List Named) (c d : Content) (s : ℕ) → followed c xs ≡ Some d → c.last s ≤ d.last s
+last_on [] c d s is = let same : c ≡ d = cc in omega (arith, ap (λ (e : Content). e.last s) same)
+last_on (n ∷ xs) c d s is = lasts_behind xs c d n s (λ e. last_on xs e d s) (verdict (standing_of c) n) is
+
+-- a content that more events lead to has what was acknowledged before
+pub still_acked : (a b : Content) (acks : List Acked) → LeadsTo a b → HasAcked a acks → HasAcked b acks
+still_acked a b acks leads all entry has = let was = all entry has in let more = last_on leads.0 a b entry.source leads.1 in omega (arith, was, more)
 
 -- the events that an image's content lacks, and those that it has more, may be more
 pub wider : (a first last b : Content) (image : Image) → LeadsTo a first → LeadsTo last b → IsOn first last image → IsOn a b image
@@ -170,7 +201,7 @@ module _ {D : Type 0} (g : disk.Ghosts D) where
     commit_leads (Ok count) done leads = subst (λ (c : Content). LeadsTo (saved g old) c) (sym (ap (λ (d : detect.ShownDetector (pool.ShownPool D)). detect.content (pools.live g) d) done.answer.committed)) leads
     commit_leads (Err r) done leads = same_leads (saved g old) (saved g new) (saved_same done.answer.committed)
 
-    saved_leads : (step : Step) (result : StepResult) → StepDone g old new step result → LeadsTo (saved g old) (live g old) → LeadsTo (saved g old) (saved g new)
+    pub saved_leads : (step : Step) (result : StepResult) → StepDone g old new step result → LeadsTo (saved g old) (live g old) → LeadsTo (saved g old) (saved g new)
     saved_leads (step.Offer n) result done leads = same_leads (saved g old) (saved g new) (saved_same done.2.same.committed)
     saved_leads step.Commit result done leads = commit_leads done.0 done.2 leads
     saved_leads step.Freeze result done leads = same_leads (saved g old) (saved g new) (saved_same done.2.done.committed)

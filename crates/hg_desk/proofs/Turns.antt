@@ -9,14 +9,14 @@ use Rattle.hg_disk.specs.declared.disk.Disk as disk
 use Rattle.hg_protocol.specs.declared.frame.Frame.{Frame}
 use Rattle.hg_protocol.specs.declared.frame.Frame.TheVariants.{Hello, Event as Numbered, Ask, Reports, Bye}
 use Rattle.hg_protocol.specs.declared.reply.Reply.{Reply}
-use Rattle.hg_protocol.specs.declared.reply.Reply.TheVariants.{Welcome}
+use Rattle.hg_protocol.specs.declared.reply.Reply.TheVariants.{Welcome, Accepted, Duplicate, Refused, Ack, Line, Fault, Lines, Nothing}
 use Rattle.hg_store.specs.declared.steps.StepResult.{StepResult}
 use Rattle.hg_store.specs.declared.steps.StepResult.TheVariants.{Committed, Offered}
 use Rattle.hg_store.specs.declared.store.TheConstants.{MOST_PENDING}
 use Rattle.hg_store.specs.Shown.{ShownStore, live}
 use Rattle.hg_desk.specs.declared.desk.Stage.{Stage}
 use Rattle.hg_desk.specs.declared.desk.Stage.TheVariants.{Greeting, Talking, Over}
-use Rattle.hg_desk.specs.Conversation.{Answers, AnswersTurn, Converses, ReportsAnswer, Still, ToldAccepted, WasCommitted, accepted_by, accepted_by_all, commit_reply, offer_reply, refused}
+use Rattle.hg_desk.specs.Conversation.{Answers, AnswersTurn, Converses, ReportsAnswer, Still, ToldAccepted, WasCommitted, accepted_by, accepted_by_all, commit_reply, offer_reply, refused, with_ack}
 use Rattle.hg_desk.specs.Told.{StepTold, Told, taken}
 
 -- ---- one frame
@@ -59,6 +59,40 @@ reports_none is_honest false c reply (inl is) = ap accepted_by is
 reports_none is_honest false c reply (inr (inl is)) = ap accepted_by is
 reports_none is_honest false c reply (inr (inr is)) = ap accepted_by is.0
 
+-- an acknowledgement changes no count
+same_accepted : (source : ℕ) (reply : Reply) (told : Told) → (with_ack source reply told).accepted ≡ told.accepted
+same_accepted source (Ack number) told = refl
+same_accepted source (Welcome last) told = refl
+same_accepted source (Accepted number) told = refl
+same_accepted source (Duplicate last) told = refl
+same_accepted source (Refused number code expected) told = refl
+same_accepted source (Line line) told = refl
+same_accepted source (Fault code) told = refl
+same_accepted source (Lines lines) told = refl
+same_accepted source Nothing told = refl
+
+same_durable : (source : ℕ) (reply : Reply) (told : Told) → (with_ack source reply told).durable ≡ told.durable
+same_durable source (Ack number) told = refl
+same_durable source (Welcome last) told = refl
+same_durable source (Accepted number) told = refl
+same_durable source (Duplicate last) told = refl
+same_durable source (Refused number code expected) told = refl
+same_durable source (Line line) told = refl
+same_durable source (Fault code) told = refl
+same_durable source (Lines lines) told = refl
+same_durable source Nothing told = refl
+
+acked_told : (is_honest : Bool) (source : ℕ) (reply : Reply) (told between after : Told) (count : ℕ) → after ≡ with_ack source reply between → ToldAccepted is_honest told between count
+    → ToldAccepted is_honest told after count
+acked_told is_honest source reply told between after count is all =
+    let a : after.accepted ≡ between.accepted = ap (λ (t : Told). t.accepted) is ∙ same_accepted source reply between in
+    let d : after.durable ≡ between.durable = ap (λ (t : Told). t.durable) is ∙ same_durable source reply between in record {
+      accepted = λ honest. let one = all.accepted honest in omega (arith, a, one);
+      at_most = let one = all.at_most in omega (arith, a, one);
+      at_least = let one = all.at_least in omega (arith, a, one);
+      durable = let one = all.durable in omega (arith, d, one);
+    }
+
 module _ {D : Type 0} (g : disk.Ghosts D) where
   answer_told : (stage : Stage) (old new : ShownStore D) (told after : Told) (frame : Frame) (to : Stage) (reply : Reply) → Answers g stage old new told after frame to reply
       → ToldAccepted g.is_honest told after (accepted_by reply)
@@ -71,7 +105,8 @@ module _ {D : Type 0} (g : disk.Ghosts D) where
   answer_told (Talking source) old new told after (Numbered number event) to reply is =
       step_told g.is_honest told after (Offered is.0) (accepted_by reply) is.1.told_of (ap accepted_by is.2.1 ∙ offer_counts number is.0)
   answer_told (Talking source) old new told after Ask to reply is =
-      step_told g.is_honest told after (Committed is.0) (accepted_by reply) is.1.told_of (ap accepted_by is.2.1 ∙ commit_none _ is.0)
+      acked_told g.is_honest source reply told is.1.1 after (accepted_by reply) is.1.4
+      (step_told g.is_honest told is.1.1 (Committed is.1.0) (accepted_by reply) is.1.2.told_of (ap accepted_by is.1.3 ∙ commit_none _ is.1.0))
   answer_told (Talking source) old new told after Reports to reply is = none_told g.is_honest told after (accepted_by reply) is.0.1 (reports_none g.is_honest old.is_broken (live g old) reply is.2)
   answer_told (Talking source) old new told after Bye to reply is = none_told g.is_honest told after (accepted_by reply) is.0.1 (ap accepted_by is.1.1)
   answer_told Over old new told after frame to reply is = none_told g.is_honest told after (accepted_by reply) is.0.1 (ap accepted_by is.1.1)

@@ -25,7 +25,7 @@ use Rattle.hg_desk.specs.declared.turn.TheConstants.{MOST_TURN}
 use Rattle.hg_desk.specs.declared.desk.Stage.TheVariants.{Greeting, Talking, Over}
 use Rattle.hg_desk.specs.declared.tasks.Turned.{Turned}
 use Rattle.hg_desk.specs.Going.{Began, WentOnSince}
-use Rattle.hg_desk.specs.Told.{Told, StepKept}
+use Rattle.hg_desk.specs.Told.{Told, StepKept, ack}
 
 -- the number that a source has to send next, where a refusal is of a gap
 abbrev pub expected_of : Refusal → ℕ
@@ -80,10 +80,23 @@ abbrev pub Offers : {D : Type 0} → disk.Ghosts D → Named → (old new : Show
 Offers g named old new told told_after reply =
     (result : Result Answer Refusal) × StepKept g old new told told_after (Offer named) (Offered result) × (reply ≡ offer_reply named.number result)
 
--- One commit, and the reply that belongs to its answer, with the last number of this source.
+-- What a share is told by a reply to an Ask of this source: an Ack is an acknowledgement.
+abbrev pub with_ack : ℕ → Reply → Told → Told
+with_ack source (Ack number) told = record { accepted = told.accepted; durable = told.durable; acks = ack source number ∷ told.acks }
+with_ack source (Welcome last) told = told
+with_ack source (Accepted number) told = told
+with_ack source (Duplicate last) told = told
+with_ack source (Refused number code expected) told = told
+with_ack source (Line line) told = told
+with_ack source (Fault code) told = told
+with_ack source (Lines lines) told = told
+with_ack source Nothing told = told
+
+-- One commit, and the reply that belongs to its answer, with the last number of this source. The share is told it where it is an Ack.
 abbrev pub Commits : {D : Type 0} → disk.Ghosts D → ℕ → (old new : ShownStore D) → (told told_after : Told) → Reply → Type 0
 Commits g source old new told told_after reply =
-    (result : Result ℕ Refusal) × StepKept g old new told told_after Commit (Committed result) × (reply ≡ commit_reply ((live g new).last source) result)
+    (result : Result ℕ Refusal) × (between : Told) × StepKept g old new told between Commit (Committed result)
+    × (reply ≡ commit_reply ((live g new).last source) result) × (told_after ≡ with_ack source reply between)
 
 -- between the Welcome and the end: one offer for an Event, one commit for an Ask, and no other step
 abbrev pub Talks : {D : Type 0} → disk.Ghosts D → ℕ → (old new : ShownStore D) → (told told_after : Told) → Frame → Stage → Reply → Type 0
@@ -91,9 +104,7 @@ Talks g source old new told told_after (Hello other) stage reply = Still old new
 Talks g source old new told told_after (Numbered number event) stage reply =
     (result : Result Answer Refusal) × StepKept g old new told told_after (Offer (record { source = source; number = number; event = event })) (Offered result)
     × Leads stage reply (Talking source) (offer_reply number result)
-Talks g source old new told told_after Ask stage reply =
-    (result : Result ℕ Refusal) × StepKept g old new told told_after Commit (Committed result)
-    × Leads stage reply (Talking source) (commit_reply ((live g new).last source) result)
+Talks g source old new told told_after Ask stage reply = (stage ≡ Talking source) × Commits g source old new told told_after reply
 Talks g source old new told told_after Reports stage reply = Still old new told told_after × (stage ≡ Talking source) × ReportsAnswer g.is_honest old.is_broken (live g old) reply
 Talks g source old new told told_after Bye stage reply = Still old new told told_after × Leads stage reply Over Nothing
 

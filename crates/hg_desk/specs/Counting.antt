@@ -1,15 +1,15 @@
 -- What the shares were told in all, and what the books have.
-use Rattle.std.specs.Prelude.{◌≡◌, ◌≢◌, ◌⊎◌, ◌+◌, ◌≤◌, ℕ, List, length, map, sum}
+use Rattle.std.specs.Prelude.{◌≡◌, ◌≢◌, ◌⊎◌, ◌+◌, ◌≤◌, ℕ, All, List, length, map, sum}
 use Rattle.hg_disk.specs.declared.disk.Disk as disk
 use Rattle.hg_model.specs.Contents.{Content}
 use Rattle.hg_contents.specs.Images.{HasContent, Image}
 use Rattle.hg_contents.specs.Stores.{IsLeft}
 use Rattle.hg_store.specs.Images.{states_of}
-use Rattle.hg_store.specs.Shown.{ShownStore, live}
+use Rattle.hg_store.specs.Shown.{ShownStore, live, saved}
 use Rattle.hg_desk.specs.declared.locked.Counts.{Counts}
 use Rattle.hg_desk.specs.declared.shared.TakenIn.{TakenIn}
 use Rattle.hg_desk.specs.declared.shared.Tally.{Tally}
-use Rattle.hg_desk.specs.Told.{Told}
+use Rattle.hg_desk.specs.Told.{HasAcked, Told}
 
 -- how many events these shares were told were accepted
 abbrev pub accepted_in : List Told → ℕ
@@ -18,6 +18,10 @@ accepted_in shares = sum (map (λ s. s.accepted) shares)
 -- how many events the commits of these shares made durable
 abbrev pub durable_in : List Told → ℕ
 durable_in shares = sum (map (λ s. s.durable) shares)
+
+-- A content has the events of each acknowledgement that these shares were told.
+abbrev pub AreAcked : Content → List Told → Type 0
+AreAcked c shares = All (λ s. HasAcked c s.acks) shares
 
 -- P holds where these are all of so many shares.
 abbrev pub WhereAll : List Told → ℕ → Type 0 → Type 0
@@ -49,6 +53,10 @@ module _ {D : Type 0} (g : disk.Ghosts D) where
   -- Durable are the events that were durable at the opening, and as many more as the shares were told.
   abbrev pub HasTheirDurable : ℕ → List Told → TakenIn D → Type 0
   HasTheirDurable opening shares taken_in = taken_in.store.durable ≡ opening + durable_in shares
+
+  -- The durable content of the store that was taken in has what the shares were told is acknowledged.
+  abbrev pub HasTheirAcks : List Told → TakenIn D → Type 0
+  HasTheirAcks shares taken_in = AreAcked (saved g taken_in.store) shares
 
   -- Each image of the store's devices has a content of so many events at least.
   abbrev pub EachImageHas : ShownStore D → ℕ → Type 0

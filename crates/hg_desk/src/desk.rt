@@ -228,9 +228,11 @@ fn commit<D: Disk, A: Opening, B: Column>(
     ensures fits { FitsFrames result }
 {
     match core.commit(share) {
-        Ok(_) => Reply::Ack {
-            number: core.last(source).unwrap_or(0),
-        },
+        Ok(_) => {
+            let number = core.last(source).unwrap_or(0);
+            core.acknowledge(share, source, number);
+            Reply::Ack { number }
+        }
         Err(refusal) => refused(0, refusal),
     }
 }

@@ -5,14 +5,14 @@ ghost use Rattle.hg_model.specs.declared.verdict.Refusal.TheVariants.{Broken};
 ghost use Rattle.hg_protocol.specs.Spelling.{FitsFrames};
 ghost use Rattle.hg_store.specs.Doing.{fails_by};
 ghost use Rattle.hg_store.specs.Journal.{failed_after};
-ghost use Rattle.hg_store.specs.Shown.{HasCounted, live};
+ghost use Rattle.hg_store.specs.Shown.{HasCounted, live, saved};
 ghost use Rattle.hg_store.specs.Store.{Backs};
 ghost use Rattle.hg_desk.specs.Blanks.{IsBlankOf};
 ghost use Rattle.hg_desk.specs.Conversation.{HadSince, MakesRoom, ReportsAnswer, count_of};
 ghost use Rattle.hg_desk.specs.Going.{began};
 ghost use Rattle.hg_store.specs.declared.steps.Step.TheVariants as step;
 ghost use Rattle.hg_store.specs.declared.steps.StepResult.TheVariants as told;
-ghost use Rattle.hg_desk.specs.Told.{StepKept, fitting, made_durable, nothing_told, taken};
+ghost use Rattle.hg_desk.specs.Told.{StepKept, ack, fitting, made_durable, nothing_told, taken};
 
 use crate::desk::refused;
 use crate::moment::Moment;
@@ -24,6 +24,7 @@ use hg_model::event::Named;
 use hg_model::verdict::Refusal;
 use hg_protocol::lines::{ReportLines, ReportList};
 use hg_protocol::reply::Reply;
+use hg_receipts::{Acked, Blank as BlankRegister, Register};
 use hg_store::steps::{Cause, Step, StepFault, StepResult};
 use hg_store::store::Store;
 use hg_trail::Trail;
@@ -43,6 +44,8 @@ pub struct Core<D: Disk, A: Opening, B: Column> {
     pub(crate) moments: Trail<Moment<D>>,
     /// Whether the answer of a step told a device failure.
     pub(crate) has_failed: bool,
+    /// The acknowledgements that were given.
+    pub(crate) acks: Register<A>,
 }
 
 impl<D: Disk, A: Opening, B: Column> Model for Core<D, A, B> {
@@ -53,7 +56,7 @@ impl<D: Disk, A: Opening, B: Column> Model for Core<D, A, B> {
 
     ghost view = { λ c. c.store };
 
-    ghost invariant = { λ c. IsCore ⟦<D as Disk>⟧ A.start A.opening B.opening c.store c.accepted.total c.durable.total c.accepted_count c.durable_count c.moments c.has_failed };
+    ghost invariant = { λ c. IsCore ⟦<D as Disk>⟧ A.start A.opening B.opening c.store c.accepted.total c.durable.total c.accepted_count c.durable_count c.moments c.has_failed c.acks };
 }
 
 /// How many events were accepted and made durable since the opening.
@@ -64,7 +67,7 @@ pub struct Counts {
 }
 
 /// Counts accepted events.
-fn note_accepted<A: Column, B: Column>(
+fn note_accepted<A: Opening, B: Column>(
     book: &mut Book<A>,
     count: &mut u64,
     share: &mut Share<A, B>,
@@ -85,7 +88,7 @@ fn note_accepted<A: Column, B: Column>(
 }
 
 /// Counts events that a commit made durable.
-fn note_durable<A: Column, B: Column>(
+fn note_durable<A: Opening, B: Column>(
     book: &mut Book<B>,
     count: &mut u64,
     share: &mut Share<A, B>,
@@ -195,27 +198,32 @@ impl<D: Disk, A: Opening, B: Column> Core<D, A, B> {
         store: Store<D>,
         accepted: Blank,
         durable: Blank,
+        acks: BlankRegister,
         shares: usize,
-    ) -> Result<(Self, Vec<Share<A, B>>), (Store<D>, Blank, Blank)>
+    ) -> Result<(Self, Vec<Share<A, B>>), (Store<D>, Blank, Blank, BlankRegister)>
         requires accepted { IsBlankOf A.name A.parts shares accepted }
         requires durable { IsBlankOf B.name B.parts shares durable }
+        requires acks { acks ≡ A.table }
         requires opening { ((live ⟦<D as Disk>⟧ store).events ≡ A.opening) × (store.durable ≡ B.opening) }
         requires start { IfSome A.start (λ start. start ≡ began ⟦<D as Disk>⟧ store) }
         ensures core { IfOk result (λ r. r.0 ≡ store) }
         ensures shares { IfOk result (λ r. (vec_len r.1 ≡ shares) × All (λ s. s ≡ nothing_told) r.1.items) }
-        ensures err { IfErr result (λ e. (e.0 ≡ store) × (e.1 ≡ accepted) × (e.2 ≡ durable)) }
+        ensures err { IfErr result (λ e. (e.0 ≡ store) × (e.1 ≡ accepted) × (e.2 ≡ durable) × (e.3 ≡ acks)) }
     {
         let Ok(mut all) = Vec::with_capacity(alloc, shares) else {
-            return Err((store, accepted, durable));
+            return Err((store, accepted, durable, acks));
         };
         store.stands();
         let (accepted, mut accepted_rest) = accepted.open::<A>();
         let (durable, mut durable_rest) = durable.open::<B>();
+        let mut acks = acks.open::<A>();
         for _i in 0..shares {
-            all.push_reserved(Share::none(
+            let share = Share::none(
                 accepted_rest.split_off(1, 0),
                 durable_rest.split_off(1, 0),
-            ));
+                acks.none(),
+            );
+            all.push_reserved(share);
         }
         let core = Core {
             store,
@@ -225,6 +233,7 @@ impl<D: Disk, A: Opening, B: Column> Core<D, A, B> {
             durable_count: 0,
             moments: Trail::new(),
             has_failed: false,
+            acks,
         };
         Ok((core, all))
     }
@@ -286,6 +295,16 @@ impl<D: Disk, A: Opening, B: Column> Core<D, A, B> {
             durable_by_commit(before, &answer),
         );
         answer
+    }
+
+    /// Notes an acknowledgement, and gives the share a receipt for it.
+    pub(crate) fn acknowledge(&mut self, share: &mut Share<A, B>, source: u16, number: u64)
+        requires durable { IsTrue D.is_honest → number ≤ (saved ⟦<D as Disk>⟧ self.old).last source }
+        ensures same { self.new ≡ self.old }
+        ensures share { share.new ≡ record share.old { acks = ack source number ∷ share.old.acks } }
+    {
+        self.acks
+            .note(&mut share.receipts, Acked { source, number });
     }
 
     /// Tells contracts that the store has gone on from its opening.

@@ -1,10 +1,11 @@
 //! The lock, and how a shared store is opened and taken in.
 
 ghost use Rattle.std.specs.Prelude.{◌≡◌, ◌+◌, ◌≤◌, ◌⊎◌, ◌≢◌, length, map, sum, vec_len, All, IfOk, IfSome, IfErr, IsTrue};
-ghost use Rattle.hg_store.specs.Shown.{live};
+ghost use Rattle.hg_receipts.specs.Receipts.{AreAmong};
+ghost use Rattle.hg_store.specs.Shown.{live, saved};
 ghost use Rattle.hg_desk.specs.Blanks.{IsBlankOf};
 ghost use Rattle.hg_desk.specs.Going.{FailedSince, WentOnSince, began};
-ghost use Rattle.hg_desk.specs.Counting.{AreDisputed, HasTheirDurable, HasTheirEvents, ImagesHaveThem, WhereAll, accepted_in, durable_in, events_of};
+ghost use Rattle.hg_desk.specs.Counting.{AreAcked, AreDisputed, HasTheirAcks, HasTheirDurable, HasTheirEvents, ImagesHaveThem, WhereAll, accepted_in, durable_in, events_of};
 ghost use Rattle.hg_desk.specs.Told.{nothing_told};
 
 use crate::locked::Core;
@@ -12,6 +13,7 @@ use crate::moment::Moment;
 use crate::share::{Column, Opening, Share};
 use crate::tasks::Task;
 use hg_disk::Disk;
+use hg_receipts::{Blank as BlankRegister, Register};
 use hg_store::store::Store;
 use hg_trail::Trail;
 use std::alloc::Global;
@@ -58,16 +60,18 @@ impl<D: Disk, A: Opening, B: Column> Shared<D, A, B> {
         store: Store<D>,
         accepted: Blank,
         durable: Blank,
+        acks: BlankRegister,
         shares: usize,
-    ) -> Result<(Self, Vec<Share<A, B>>), (Store<D>, Blank, Blank)>
+    ) -> Result<(Self, Vec<Share<A, B>>), (Store<D>, Blank, Blank, BlankRegister)>
         requires accepted { IsBlankOf A.name A.parts shares accepted }
         requires durable { IsBlankOf B.name B.parts shares durable }
+        requires acks { acks ≡ A.table }
         requires opening { ((live ⟦<D as Disk>⟧ store).events ≡ A.opening) × (store.durable ≡ B.opening) }
         requires start { IfSome A.start (λ start. start ≡ began ⟦<D as Disk>⟧ store) }
         ensures shares { IfOk result (λ r. (vec_len r.1 ≡ shares) × All (λ s. s ≡ nothing_told) r.1.items) }
-        ensures err { IfErr result (λ e. (e.0 ≡ store) × (e.1 ≡ accepted) × (e.2 ≡ durable)) }
+        ensures err { IfErr result (λ e. (e.0 ≡ store) × (e.1 ≡ accepted) × (e.2 ≡ durable) × (e.3 ≡ acks)) }
     {
-        let (core, all) = Core::open(alloc, store, accepted, durable, shares)?;
+        let (core, all) = Core::open(alloc, store, accepted, durable, acks, shares)?;
         Ok((
             Shared {
                 core: Mutex::new(core),
@@ -86,7 +90,7 @@ impl<D: Disk, A: Opening, B: Column> Shared<D, A, B> {
 }
 
 /// What the shares were told, in all.
-fn told<A: Column, B: Column>(shares: &[Share<A, B>]) -> (u128, u128)
+fn told<A: Opening, B: Column>(shares: &[Share<A, B>]) -> (u128, u128)
     ensures accepted { result.0 ≡ accepted_in shares.now }
     ensures durable { result.1 ≡ durable_in shares.now }
 {
@@ -100,7 +104,7 @@ fn told<A: Column, B: Column>(shares: &[Share<A, B>]) -> (u128, u128)
 }
 
 impl<D: Disk, A: Opening, B: Column> Core<D, A, B> {
-    /// Compares the books with the shares, and tells the counts of both.
+    /// Compares the books and the acknowledgements with the shares, and tells the counts of both.
     fn tally(&mut self, shares: &mut [Share<A, B>]) -> Tally
         ensures accepted_told { result.accepted_told ≡ accepted_in shares.old }
         ensures durable_told { result.durable_told ≡ durable_in shares.old }
@@ -109,9 +113,11 @@ impl<D: Disk, A: Opening, B: Column> Core<D, A, B> {
         ensures durable_book { IsTrue D.is_honest → self.old.durable ≡ B.opening + result.durable_book }
         ensures accepted { WhereAll shares.old A.parts (result.accepted_told ≡ result.accepted_book) }
         ensures durable { WhereAll shares.old B.parts (result.durable_told ≡ result.durable_book) }
+        ensures acked { IsTrue D.is_honest → AreAcked (saved ⟦<D as Disk>⟧ self.old) shares.old }
         ensures same { self.new ≡ self.old }
         ensures shares { shares.new ≡ shares.old }
     {
+        self.compare(shares);
         let (accepted_told, durable_told) = told(shares);
         audit(&mut self.accepted, &mut self.durable, shares);
         Tally {
@@ -120,6 +126,15 @@ impl<D: Disk, A: Opening, B: Column> Core<D, A, B> {
             durable_told,
             durable_book: u128::from(self.durable_count),
         }
+    }
+
+    /// Compares the receipts of shares with the acknowledgements: each was given, and stands in the durable content.
+    fn compare(&mut self, shares: &mut [Share<A, B>])
+        ensures acked { IsTrue D.is_honest → AreAcked (saved ⟦<D as Disk>⟧ self.old) shares.old }
+        ensures same { self.new ≡ self.old }
+        ensures shares { shares.new ≡ shares.old }
+    {
+        compare_each(&mut self.acks, shares);
     }
 
     fn into_store(self) -> TakenIn<D>
@@ -135,6 +150,7 @@ impl<D: Disk, A: Opening, B: Column> Core<D, A, B> {
             durable_count: _,
             moments,
             has_failed,
+            acks: _,
         } = self;
         TakenIn {
             store,
@@ -145,7 +161,7 @@ impl<D: Disk, A: Opening, B: Column> Core<D, A, B> {
 }
 
 /// Compares the books with the shares: if all shares are here, the totals are what they were told.
-fn audit<A: Column, B: Column>(
+fn audit<A: Opening, B: Column>(
     accepted: &mut Book<A>,
     durable: &mut Book<B>,
     shares: &mut [Share<A, B>],
@@ -166,7 +182,7 @@ fn audit<A: Column, B: Column>(
 
 /// Lends the parts of these shares to `seen`, which then stands for all of them, and takes them back. No byte is changed: it is the
 /// books' own law that whoever has all parts has the total.
-fn audit_accepted<A: Column, B: Column>(
+fn audit_accepted<A: Opening, B: Column>(
     book: &mut Book<A>,
     shares: &mut [Share<A, B>],
     seen: &mut Part<A>,
@@ -189,7 +205,7 @@ fn audit_accepted<A: Column, B: Column>(
 }
 
 /// Lends the parts of these shares in the other column to `seen`, as `audit_accepted` does.
-fn audit_durable<A: Column, B: Column>(
+fn audit_durable<A: Opening, B: Column>(
     book: &mut Book<B>,
     shares: &mut [Share<A, B>],
     seen: &mut Part<B>,
@@ -211,6 +227,19 @@ fn audit_durable<A: Column, B: Column>(
     seen.give(&mut first.durable_part, 1, told);
 }
 
+/// Compares the receipts of shares with a register. No byte is changed.
+fn compare_each<A: Opening, B: Column>(acks: &mut Register<A>, shares: &mut [Share<A, B>])
+    ensures among { All (λ s. AreAmong s.acks acks.old) shares.old }
+    ensures same { acks.new ≡ acks.old }
+    ensures shares { shares.new ≡ shares.old }
+{
+    let Some((first, rest)) = shares.split_first_mut() else {
+        return;
+    };
+    acks.compare(&mut first.receipts);
+    compare_each(acks, rest);
+}
+
 /// Takes the store back from all workers. An `Err` comes only where the books differ from what the shares were told, and hands all back.
 pub fn gather<D: Disk, A: Opening, B: Column>(
     shares: Vec<Share<A, B>>,
@@ -221,6 +250,8 @@ pub fn gather<D: Disk, A: Opening, B: Column>(
     ensures since { IfOk result (λ r. WentOnSince ⟦<D as Disk>⟧ A.start r.moments r.store) }
     ensures failed { IfOk result (λ r. IsTrue r.has_failed → FailedSince ⟦<D as Disk>⟧ A.start r.store) }
     ensures images { IsTrue D.is_honest → IfOk result (ImagesHaveThem ⟦<D as Disk>⟧ B.opening shares.items) }
+    // What the shares were told is acknowledged, the durable content has.
+    ensures acked { IsTrue D.is_honest → IfOk result (HasTheirAcks ⟦<D as Disk>⟧ shares.items) }
     // Where all shares come back, they agree with the books.
     ensures whole { 1 ≤ vec_len shares → vec_len shares ≡ A.parts → vec_len shares ≡ B.parts → IfErr result (λ e. ⊥) }
     ensures err { IfErr result (λ e. AreDisputed shares.items e.0.items e.2) }

@@ -31,6 +31,8 @@ use Rattle.std.proofs.sync.ledger.Book.TheSendSync as book
 use Rattle.hg_trail.proofs.trail.Trail.TheLaws.TheKnot as knot
 use Rattle.hg_desk.specs.declared.share.Column as column
 use Rattle.hg_desk.specs.declared.share.Opening as opening
+use Rattle.hg_receipts.specs.declared.view.Room as room
+use Rattle.hg_receipts.proofs.register.Register.TheSendSync as register
 use Rattle.hg_desk.specs.contracts.locked.Core as core
 use Rattle.hg_desk.specs.contracts.locked.Core.TheInside as locked
 use Rattle.hg_desk.specs.contracts.shared.Shared as shared
@@ -147,8 +149,8 @@ pub store_send : (D : RattleType) (g : disk.Ghosts D.Denot) → IsSend D → IsS
 store_send D g d = view_send _ _ _ _ _ (recorded_send _ _ _ (within.the_type D g).to_one (struct_send (shape (within.the_type D g)) (store_parts D g d)))
 
 module _ (D A B : RattleType) (g : disk.Ghosts D.Denot) (o : opening.Ghosts A.Denot) (c : column.Ghosts A.Denot)
-    (l : ledger.Ghosts A.Denot) (c' : column.Ghosts B.Denot) (l' : ledger.Ghosts B.Denot) where
-  core_parts : IsSend D → AllSend (shape (locked.the_type D A B g o c l c' l')).fields
+    (l : ledger.Ghosts A.Denot) (r : room.Ghosts A.Denot) (c' : column.Ghosts B.Denot) (l' : ledger.Ghosts B.Denot) where
+  core_parts : IsSend D → AllSend (shape (locked.the_type D A B g o c l r c' l')).fields
   core_parts d = (
     store_send D g d,
     (
@@ -157,17 +159,17 @@ module _ (D A B : RattleType) (g : disk.Ghosts D.Denot) (o : opening.Ghosts A.De
         book.the_send B l',
         (
           search (sendable, crosses) depth 20,
-          (search (sendable, crosses) depth 20, (search (sendable, crosses, knot.crosses) depth 20, (search (sendable, crosses) depth 20, tt))),
+          (search (sendable, crosses) depth 20, (search (sendable, crosses, knot.crosses) depth 20, (search (sendable, crosses) depth 20, (register.the_send A r, tt)))),
         ),
       ),
     ),
   )
 
-  core_send : IsSend D → IsSend (core.the_row D A B g o c l c' l')
+  core_send : IsSend D → IsSend (core.the_row D A B g o c l r c' l')
   core_send d =
-      view_send _ _ _ _ _ (recorded_send _ _ _ (locked.the_type D A B g o c l c' l').to_one (struct_send (shape (locked.the_type D A B g o c l c' l')) (core_parts d)))
+      view_send _ _ _ _ _ (recorded_send _ _ _ (locked.the_type D A B g o c l r c' l').to_one (struct_send (shape (locked.the_type D A B g o c l r c' l')) (core_parts d)))
 
-  pub shared_sync : IsSend D → IsSync (shared.the_row D A B g o c l c' l')
+  pub shared_sync : IsSend D → IsSync (shared.the_row D A B g o c l r c' l')
   shared_sync d = let value = core_send d in search (value, sendable, crosses) depth 60 fits 20000
 
 -- A closure crosses threads where all that it captures does.

@@ -1,6 +1,6 @@
 //! What a worker begins with.
 
-use hg_desk::share::{Column, Share};
+use hg_desk::share::{Column, Opening, Share};
 use hg_streams::streams::PIECE_BYTES;
 use std::alloc::{AllocError, Global};
 
@@ -26,7 +26,7 @@ impl Piece {
 
 /// A share and a piece, for one worker.
 #[derive(Drop)]
-pub(crate) struct Station<A: Column, B: Column> {
+pub(crate) struct Station<A: Opening, B: Column> {
     pub(crate) share: Share<A, B>,
     pub(crate) piece: Piece,
 }
@@ -41,7 +41,7 @@ pub(crate) fn pieces_for(alloc: Global, workers: u16) -> Result<Vec<Piece>, Allo
 }
 
 /// Gives each share a piece.
-pub(crate) fn stations<A: Column, B: Column>(
+pub(crate) fn stations<A: Opening, B: Column>(
     alloc: Global,
     shares: Vec<Share<A, B>>,
     pieces: Vec<Piece>,

@@ -29,6 +29,7 @@ use hg_desk::share::{Column, Opening, Share};
 use hg_desk::shared::{Shared, TakenIn, gather};
 use hg_disk::Disk;
 use hg_model::verdict::Refusal;
+use hg_receipts::Blank as BlankRegister;
 use hg_store::devices::{Caps, Devices};
 use hg_store::store::Store;
 use hg_streams::output::{Output, Outputs};
@@ -221,11 +222,13 @@ fn serve_by<
     store: Store<D>,
     accepted: Blank,
     durable: Blank,
+    acks: BlankRegister,
     pieces: Vec<Piece>,
     door: &Door<G>,
 ) -> Service<D, ServingFault>
     requires accepted { IsBlankOf A.name A.parts (door.now.settings.workers + 1) accepted }
     requires durable { IsBlankOf B.name B.parts (door.now.settings.workers + 1) durable }
+    requires acks { acks ≡ A.table }
     requires opening { ((live ⟦<D as Disk>⟧ store).events ≡ A.opening) × (store.durable ≡ B.opening) }
     requires start { A.start ≡ Some (began ⟦<D as Disk>⟧ store) }
     ensures went { WentOn ⟦<D as Disk>⟧ (began ⟦<D as Disk>⟧ store) result.moments result.store }
@@ -237,9 +240,10 @@ fn serve_by<
     let count = usize::from(door.settings.workers) + 1;
     let begun = store.durable().unwrap_or(0);
     store.stands();
-    let (shared, shares) = match Shared::<D, A, B>::new(alloc, store, accepted, durable, count) {
+    let opened = Shared::<D, A, B>::new(alloc, store, accepted, durable, acks, count);
+    let (shared, shares) = match opened {
         Ok(opened) => opened,
-        Err((store, _, _)) => {
+        Err((store, _, _, _)) => {
             return Service {
                 store,
                 moments: Trail::new(),
@@ -305,18 +309,22 @@ fn print_ready<W: Write>(settings: Settings, output: &mut Output<W>) -> Result<(
     }
 }
 
-/// Prints `ready` and what the server listens on, where the workers have their memory and all threads can be made. Gives that memory.
+/// Prints `ready` and what the server listens on, where the workers have their memory and all threads can be made. Gives that memory, and a
+/// register for what clients are told.
 fn announce<G, R: Threads + Clock + Sync, W: Write>(
     rt: &R,
     alloc: Global,
     door: &Door<G>,
     output: &mut Output<W>,
-) -> Result<Vec<Piece>, Refusal>
+) -> Result<(Vec<Piece>, BlankRegister), Refusal>
     ensures printed { OnOk result (Took output.old.calls output.new.calls (ready_text door.now.settings)) }
     ensures calls { IsPrintedNow output.old.calls output.new.calls (ready_text door.now.settings) }
     ensures cause { IfErr result IsStreamFault }
 {
-    let Ok(pieces) = pieces_for(alloc, door.settings.workers) else {
+    let (Ok(pieces), Ok(acks)) = (
+        pieces_for(alloc, door.settings.workers),
+        BlankRegister::new(alloc),
+    ) else {
         return Err(Refusal::OutOfMemory);
     };
     if !can_start(
@@ -327,7 +335,7 @@ fn announce<G, R: Threads + Clock + Sync, W: Write>(
         return Err(Refusal::OutOfMemory);
     }
     print_ready(door.settings, output)?;
-    Ok(pieces)
+    Ok((pieces, acks))
 }
 
 /// Prints `ready` and what the server listens on where all threads can be made, serves the connections, and prints what is due then.
@@ -352,8 +360,8 @@ fn serve_and_print<
     ensures cause { IfErr result.ended (IsServingFault ⟦<D as Disk>⟧ store.devices result.store.devices) }
 {
     store.stands();
-    let pieces = match announce(rt, alloc, door, output) {
-        Ok(pieces) => pieces,
+    let (pieces, acks) = match announce(rt, alloc, door, output) {
+        Ok(made) => made,
         Err(refusal) => {
             return Service {
                 store,
@@ -375,6 +383,7 @@ fn serve_and_print<
         store,
         Blank::new(threads),
         Blank::new(threads),
+        acks,
         pieces,
         door,
     );

@@ -15,6 +15,7 @@ use hg_desk::share::{Column, Opening, Share};
 use hg_desk::shared::{Shared, TakenIn, gather};
 use hg_disk::{Disk, MemDisk};
 use hg_model::event::{Access, Event};
+use hg_receipts::Blank as BlankRegister;
 use hg_server::flusher::{Due, flusher};
 use hg_server::health::Terms;
 use hg_server::piece::Piece;
@@ -317,17 +318,20 @@ fn run_over<A: Opening + Send + Sync, B: Column + Send + Sync, R: Threads + Wait
     store: Store<MemDisk>,
     accepted: Blank,
     durable: Blank,
+    acks: BlankRegister,
     row: Row,
     sent: &[u8],
     out: &mut Text,
 )
     requires accepted { IsBlankOf A.name A.parts 2 accepted }
     requires durable { IsBlankOf B.name B.parts 2 durable }
+    requires acks { acks ≡ A.table }
     requires opening { ((live ⟦<MemDisk as Disk>⟧ store).events ≡ A.opening) × (store.durable ≡ B.opening) }
     requires start { IfSome A.start (λ start. start ≡ began ⟦<MemDisk as Disk>⟧ store) }
 {
-    let Ok((shared, mut shares)) = Shared::<MemDisk, A, B>::new(alloc, store, accepted, durable, 2)
-    else {
+    let Ok((shared, mut shares)) = Shared::<MemDisk, A, B>::new(
+        alloc, store, accepted, durable, acks, 2,
+    ) else {
         out.put(b"no memory\n");
         return;
     };
@@ -363,12 +367,17 @@ fn run_new<R: Threads + Wait + Clock + Sync>(
         out.put(b"no memory\n");
         return;
     };
+    let Ok(acks) = BlankRegister::new(alloc) else {
+        out.put(b"no memory\n");
+        return;
+    };
     run_over::<Brand, Brand, R>(
         rt,
         alloc,
         store,
         Blank::new(2),
         Blank::new(2),
+        acks,
         row,
         sent,
         out,

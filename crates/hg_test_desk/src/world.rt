@@ -17,6 +17,7 @@ use hg_protocol::feed::{Fed, Feed, FeedRefusal};
 use hg_protocol::frame::Frame;
 use hg_protocol::put::put_reply;
 use hg_protocol::reply::{Reply, ReplyFeed};
+use hg_receipts::Blank as BlankRegister;
 use hg_store::devices::{Caps, Devices};
 use hg_store::store::Store;
 use hg_test_kit::digits::put_spelled;
@@ -218,16 +219,19 @@ fn run_over<A: Opening, B: Column>(
     store: Store<MemDisk>,
     accepted: Blank,
     durable: Blank,
+    acks: BlankRegister,
     part: &[u8],
     out: &mut Text,
 )
     requires accepted { IsBlankOf A.name A.parts 1 accepted }
     requires durable { IsBlankOf B.name B.parts 1 durable }
+    requires acks { acks ≡ A.table }
     requires opening { ((live ⟦<MemDisk as Disk>⟧ store).events ≡ A.opening) × (store.durable ≡ B.opening) }
     requires start { IfSome A.start (λ start. start ≡ began ⟦<MemDisk as Disk>⟧ store) }
 {
-    let Ok((core, mut shares)) = Core::<MemDisk, A, B>::open(alloc, store, accepted, durable, 1)
-    else {
+    let Ok((core, mut shares)) = Core::<MemDisk, A, B>::open(
+        alloc, store, accepted, durable, acks, 1,
+    ) else {
         out.put(b"no memory\n");
         return;
     };
@@ -245,11 +249,16 @@ pub fn run_store(alloc: Global, part: &str, out: &mut Text) {
         out.put(b"no memory\n");
         return;
     };
+    let Ok(acks) = BlankRegister::new(alloc) else {
+        out.put(b"no memory\n");
+        return;
+    };
     run_over::<Brand, Brand>(
         alloc,
         store,
         Blank::new(1),
         Blank::new(1),
+        acks,
         part.as_bytes(),
         out,
     );

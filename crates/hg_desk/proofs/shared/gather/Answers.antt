@@ -1,7 +1,9 @@
-use Rattle.std.proofs.Common.{◌≡◌, ◌∙◌, ◌+◌, ◌≤◌, ◌++◌, inl, inr, ℕ, append-nil, ap, drop, length, map, sum, sym, take, arith}
+use Rattle.std.proofs.Common.{◌≡◌, ◌∙◌, ◌+◌, ◌≤◌, ◌++◌, inl, inr, ℕ, List, append-nil, ap, drop, length, map, subst, sum, sym, take, arith}
 use Rattle.std.proofs.lemmas.List.{drop_all, take_all}
 use Rattle.hg_contents.proofs.Following.{followed_events}
 use Rattle.hg_store.specs.Shown.{ShownStore, live, saved}
+use Rattle.hg_desk.specs.Counting.{AreAcked}
+use Rattle.hg_desk.specs.Told.{Told}
 use Rattle.hg_desk.proofs.Standing.{stood}
 use Rattle.hg_desk.proofs.shared.gather.Goals as goal
 use Rattle.hg_desk.proofs.shared.gather.Goals.{then-tally-via-then-tally, then-tally-via-else-tally+then-tally-2}
@@ -44,6 +46,12 @@ returns-clause-durable g c honest =
     let same : c.into_store-taken_in.result.store ≡ c.into_inner-core.result = c.into_store-taken_in.ensures.store ∙ c.tally-tally.ensures.same in
     ap (λ (s : ShownStore g.row.D.Denot). s.durable) same ∙ c.tally-tally.ensures.durable_book honest
     ∙ ap (λ (n : ℕ). g.B.Column.opening + n) (sym c.if-tally-2.false ∙ c.tally-tally.ensures.durable_told ∙ ap (λ l. sum (map (λ s. s.durable) l)) c.as_mut_slice.ensures.value)
+
+pub returns-clause-acked : goal.returns-clause-acked
+returns-clause-acked g c honest =
+    let same : c.into_store-taken_in.result.store ≡ c.into_inner-core.result = c.into_store-taken_in.ensures.store ∙ c.tally-tally.ensures.same in
+    subst (λ (l : List Told). AreAcked (saved g.D.Disk c.into_store-taken_in.result.store) l) c.as_mut_slice.ensures.value
+    (subst (λ (s : ShownStore g.row.D.Denot). AreAcked (saved g.D.Disk s) c.as_mut_slice.result.now) (sym same) (c.tally-tally.ensures.acked honest))
 
 pub returns-clause-images : goal.returns-clause-images
 returns-clause-images g c honest image left =

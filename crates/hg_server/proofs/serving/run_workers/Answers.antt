@@ -19,8 +19,8 @@ pub join-requires-send-F : goal.join-requires-send-F
 join-requires-send-F g c κs within =
     let clock : IsSync g.row.R = search (rules, c.type_bounds) parts 8 in
     let gate : IsSync g.row.G = search (rules, c.type_bounds) parts 8 in
-    let shared = shared_sync (param 0 g.row.D) (param 1 g.row.A) (param 2 g.row.B) g.D.Disk g.A.Opening g.A.Column g.A.Ledger g.B.Column g.B.Ledger c.type_bounds.send-D in
-    let stations = vec.the_send _ _ _ (station.the_send (param 1 g.row.A) (param 2 g.row.B) g.A.Column g.A.Ledger g.B.Column g.B.Ledger) heap.the_send allocator.the_frees in
+    let shared = shared_sync (param 0 g.row.D) (param 1 g.row.A) (param 2 g.row.B) g.D.Disk g.A.Opening g.A.Column g.A.Ledger g.A.Room g.B.Column g.B.Ledger c.type_bounds.send-D in
+    let stations = vec.the_send _ _ _ (station.the_send (param 1 g.row.A) (param 2 g.row.B) g.A.Opening g.A.Column g.A.Ledger g.A.Room g.B.Column g.B.Ledger) heap.the_send allocator.the_frees in
     let from = receiver.the_send _ _ _ stream.the_send heap.the_send heap.the_sync allocator.the_frees in
     let nothing : IsSend unit = search (sendable, crosses) depth 20 in
     let nudges = sender.the_sync _ _ _ nothing heap.the_send heap.the_sync allocator.the_frees in

@@ -17,3 +17,6 @@ ghosts-serve_by-B-Ledger g a = record { name = a.durable.name; parts = a.durable
 
 abbrev pub ghosts-serve_by-B-Column : goal.ghosts-serve_by-B-Column
 ghosts-serve_by-B-Column g a = record { opening = a.store.durable }
+
+abbrev pub ghosts-serve_by-A-Room : goal.ghosts-serve_by-A-Room
+ghosts-serve_by-A-Room g a = record { table = a.acks }

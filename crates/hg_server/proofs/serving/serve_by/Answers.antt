@@ -10,8 +10,8 @@ use Rattle.hg_server.proofs.serving.serve_by.Goals as goal
 
 pub returns-in-Err-clause-went : goal.returns-in-Err-clause-went
 returns-in-Err-clause-went g c =
-    subst (λ s. WentOn g.D.Disk (began g.D.Disk c.args.store) c.new-in-Err.result s) (sym c.in-Err.ensures.err.0)
-    (subst (λ ms. WentOn g.D.Disk (began g.D.Disk c.args.store) ms c.args.store) (sym c.new-in-Err.ensures) (went_nowhere g.D.Disk c.args.store (λ honest. c.stands.ensures.backs honest)))
+    subst (λ s. WentOn g.D.Disk (began g.D.Disk c.args.store) c.new.result s) (sym c.in-Err.ensures.err.0)
+    (subst (λ ms. WentOn g.D.Disk (began g.D.Disk c.args.store) ms c.args.store) (sym c.new.ensures) (went_nowhere g.D.Disk c.args.store (λ honest. c.stands.ensures.backs honest)))
 
 pub returns-clause-went : goal.returns-clause-went
 returns-clause-went g c =

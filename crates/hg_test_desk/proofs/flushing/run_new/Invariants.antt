@@ -11,3 +11,6 @@ ghosts-run_over-B-Ledger g a = record { name = a.durable.name; parts = a.durable
 
 abbrev pub ghosts-run_over-B-Column : goal.ghosts-run_over-B-Column
 ghosts-run_over-B-Column g a = record { opening = a.store.durable }
+
+abbrev pub ghosts-run_over-A-Room : goal.ghosts-run_over-A-Room
+ghosts-run_over-A-Room g a = record { table = a.acks }

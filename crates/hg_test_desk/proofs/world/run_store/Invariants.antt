@@ -11,3 +11,6 @@ ghosts-run_over-B-Ledger a = record { name = a.durable.name; parts = a.durable.p
 
 abbrev pub ghosts-run_over-B-Column : goal.ghosts-run_over-B-Column
 ghosts-run_over-B-Column a = record { opening = a.store.durable }
+
+abbrev pub ghosts-run_over-A-Room : goal.ghosts-run_over-A-Room
+ghosts-run_over-A-Room a = record { table = a.acks }

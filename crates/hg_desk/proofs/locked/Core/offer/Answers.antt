@@ -34,7 +34,7 @@ invariant_of-self g c =
       | else-self w ↦ inr (w.is_failure-self-inside.ensures (subst IsTrue w.self-is is))
     ] in
     core_after g.D.Disk g.A.Opening.start g.A.Column.opening g.B.Column.opening c.self.inside.store c.offer-answer.new.self (Offer c.args.named.now) (Offered c.offer-answer.result) (steps g c)
-    c.self.inside.accepted.total c.self.inside.durable.total c.self.inside.accepted_count c.self.inside.durable_count c.self.inside.moments c.self.inside.has_failed c.self.invariant
+    c.self.inside.accepted.total c.self.inside.durable.total c.self.inside.accepted_count c.self.inside.durable_count c.self.inside.moments c.self.inside.has_failed c.self.inside.acks c.self.invariant
     c.note_moment-before.result c.note_moment-before.ensures.durable
     c.note_accepted.new.book.total c.self.inside.durable.total c.note_accepted.new.count c.self.inside.durable_count c.note_moment-before.new.moments c.if-self.self
     (c.note_accepted.ensures.book ∙ ap (λ (n : ℕ). c.self.inside.accepted.total + fitting c.self.inside.accepted.total n) c.accepted_by_offer.ensures)
@@ -49,8 +49,9 @@ returns g c =
     ap (λ (t : Told). t.accepted) c.note_accepted.ensures.share ∙ ap (λ (n : ℕ). c.args.share.now.accepted + fitting c.self.inside.accepted.total n) c.accepted_by_offer.ensures in
     let two : c.note_accepted.new.share.durable ≡ c.args.share.now.durable + fitting c.self.inside.durable.total 0 =
     ap (λ (t : Told). t.durable) c.note_accepted.ensures.share ∙ none g c c.args.share.now.durable in
+    let three : c.note_accepted.new.share.acks ≡ c.args.share.now.acks = ap (λ (t : Told). t.acks) c.note_accepted.ensures.share in
     let kept : StepKept g.D.Disk old new c.args.share.now c.note_accepted.new.share (Offer c.args.named.now) result =
     kept_on g.D.Disk g.A.Opening.start g.A.Column.opening g.B.Column.opening old new (Offer c.args.named.now) result (steps g c)
-    c.self.inside.accepted.total c.self.inside.durable.total c.self.inside.accepted_count c.self.inside.durable_count c.self.inside.moments c.self.inside.has_failed c.self.invariant
-    c.note_moment-before.result c.note_moment-before.ensures.durable c.args.share.now c.note_accepted.new.share one two in
+    c.self.inside.accepted.total c.self.inside.durable.total c.self.inside.accepted_count c.self.inside.durable_count c.self.inside.moments c.self.inside.has_failed c.self.inside.acks c.self.invariant
+    c.note_moment-before.result c.note_moment-before.ensures.durable c.args.share.now c.note_accepted.new.share one two three in
     subst (λ (s : ShownStore g.row.D.Denot). StepKept g.D.Disk s new c.args.share.now c.note_accepted.new.share (Offer c.args.named.now) result) c.self.view_is kept

@@ -1,6 +1,8 @@
-use Rattle.std.proofs.Common.{rules, ◌≡◌, [], ◌∷◌, Option, IfSome, sym, subst, arith}
+use Rattle.std.proofs.Common.{rules, ◌≡◌, List, [], ◌∷◌, Option, IfSome, sym, subst, arith}
 use Rattle.std.proofs.lemmas.Bool.{false≢true}
 use Rattle.std.proofs.lemmas.List.Elements.{All-append, All-cons}
+use Rattle.hg_receipts.specs.Receipts.{Has}
+use Rattle.hg_receipts.specs.declared.view.Acked.{Acked}
 use Rattle.hg_desk.specs.Told.{Told, nothing_told}
 use Rattle.hg_desk.specs.Going.{Began, WentOn, began}
 use Rattle.hg_desk.proofs.Going.{went_nowhere}
@@ -16,8 +18,9 @@ loop-i-preserved g c = record {
   count = search rules;
   room = search rules;
   none = rw c.push_reserved.ensures.items
-      (All-append IsNone c.loop-i.all.items (c.none.result ∷ []) c.loop-i.invariant.none (All-cons IsNone c.none.result [] c.none.ensures (λ k d lt. absurd (omega arith))));
+      (All-append IsNone c.loop-i.all.items (c.none-share.result ∷ []) c.loop-i.invariant.none (All-cons IsNone c.none-share.result [] c.none-share.ensures (λ k d lt. absurd (omega arith))));
   books = search rules;
+  acks = search rules;
 }
 
 pub invariant_of-core : goal.invariant_of-core
@@ -30,5 +33,6 @@ invariant_of-core g c = record {
       let same : start ≡ began g.D.Disk c.args.store = subst (λ (o : Option Began). IfSome o (λ s. s ≡ began g.D.Disk c.args.store)) is c.requires.start in
       let here : WentOn g.D.Disk (began g.D.Disk c.args.store) [] c.args.store = went_nowhere g.D.Disk c.args.store c.stands.ensures.backs in
       subst (λ s. WentOn g.D.Disk s c.new.result c.args.store) (sym same) (subst (λ ms. WentOn g.D.Disk (began g.D.Disk c.args.store) ms c.args.store) (sym c.new.ensures) here);
-  failed = λ no. absurd (false≢true no);
+  failed = λ is. absurd (false≢true is);
+  acked = λ honest entry has. absurd (subst (λ (l : List Acked). Has l entry) c.loop-i.invariant.acks has);
 }

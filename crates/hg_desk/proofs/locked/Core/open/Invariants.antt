@@ -1,4 +1,4 @@
-use Rattle.std.proofs.Common.{◌≡◌, ◌≤◌, ◌+◌, All, vec_len, vec_capacity}
+use Rattle.std.proofs.Common.{◌≡◌, ◌≤◌, ◌+◌, [], All, vec_len, vec_capacity}
 use Rattle.hg_desk.specs.Told.{nothing_told}
 use Rattle.hg_desk.proofs.locked.Core.open.Given as goal
 
@@ -10,4 +10,5 @@ invariant-loop-i g l = record {
   room : l.shares ≤ vec_capacity l.all;
   none : All (λ s. s ≡ nothing_told) l.all.items;
   books : (l.accepted.total ≡ 0) × (l.durable.total ≡ 0);
+  acks : l.acks ≡ [];
 }
