@@ -4,6 +4,7 @@ ghost use Rattle.std.specs.Prelude.{◌≡◌, ℕ, ◌+◌, ◌/◌, ◌<◌, �
 ghost use Rattle.indexmap.specs.IndexMap.{get};
 ghost use Rattle.hg_model.specs.declared.verdict.Refusal.TheVariants.{OutOfMemory};
 ghost use Rattle.hg_cells.specs.declared.cell.Cell.TheVariants.{New};
+ghost use Rattle.hg_cells.specs.Words.{AreBytes};
 ghost use Rattle.hg_cells.specs.Paged.{AreInPage, AreWithin, FillsWords, HasPage, IsPageOf, PageHasCell, StandsIn, cell_in, page_of};
 ghost use Rattle.hg_cells.specs.PagedLaws.{each_within, more_within, never_full};
 
@@ -179,6 +180,19 @@ impl PagedWords {
             }
         }
     }
+
+    /// Makes the words of a page from one place up to another new. A page that is absent stays absent. The place of one that is
+    /// present is noted as its hint.
+    fn clear_page(&mut self, number: u64, from: u64, to: u64)
+        requires in_order { from ≤ to }
+        requires in_page { to ≤ 256 }
+        ensures cells { FillsWords number from to New self.old self.new }
+    {
+        self.note(number);
+        if self.page(number).is_some() {
+            self.fill_page(number, from, to, Cell::New);
+        }
+    }
 }
 
 impl Words for PagedWords {
@@ -193,6 +207,8 @@ impl Words for PagedWords {
     ghost is_kept = { HasPage };
 
     ghost may_fill = { AreInPage };
+
+    ghost may_clear = { λ _. AreBytes };
 
     ghost may_refuse = { λ _ r. r ≡ OutOfMemory };
 
@@ -318,18 +334,24 @@ impl Words for PagedWords {
         }
     }
 
-    fn reset(&mut self, at: u64, len: u16) {
-        let (first, last) = pages_of(at, len);
-        let from = at / 4;
+    fn ready_to_clear(
+        &mut self,
+        at: u64,
+        len: u32,
+        segments: u32,
+        sets: &SetTable,
+    ) -> Result<(), Refusal> {
+        Ok(())
+    }
+
+    fn clear(&mut self, at: u64, len: u32) {
         let end = (at + u64::from(len - 1)) / 4 + 1;
-        self.fill_page(
-            first,
-            from % WORDS,
-            (end - first * WORDS).min(WORDS),
-            Cell::New,
-        );
-        if last != first {
-            self.fill_page(last, 0, end - last * WORDS, Cell::New);
+        let mut word = at / 4;
+        while word < end {
+            let from = word % WORDS;
+            let count = (end - word).min(WORDS - from);
+            self.clear_page(word / WORDS, from, from + count);
+            word += count;
         }
     }
 }

@@ -17,8 +17,9 @@ use hg_sets::SetTable;
 
 /// A map from words to their cells. Words are numbered: word w is the four bytes from the address 4 * w on.
 ///
-/// An event first brings the words that it overlaps, then keeps them, and then sets them. What can fail is in the
+/// An access first brings the words that it overlaps, then keeps them, and then sets them. What can fail is in the
 /// first two, and neither changes a cell. Words that all have one cell may be filled at once, with none of these.
+/// The words of a block are made ready, which can fail and changes no cell, and then cleared.
 pub trait Words {
     /// The cell of each word.
     ghost cell_of: { Self → ℕ → CellOf };
@@ -38,6 +39,9 @@ pub trait Words {
 
     /// So many words from this one on may be given one cell at once.
     ghost may_fill: { Self → ℕ → ℕ → Type 0 };
+
+    /// The words that so many bytes from this address on overlap may be made new at once.
+    ghost may_clear: { Self → ℕ → ℕ → Type 0 };
 
     /// The refusals that `bring` may answer, by the map as it is then.
     ghost may_refuse: { Self → RefusalOf → Type 0 };
@@ -180,12 +184,32 @@ pub trait Words {
         }
     }
 
-    /// Makes new the words that `len` bytes from `at` on overlap.
-    fn reset(&mut self, at: u64, len: u16)
-        requires kept { ForOverlapped at len (is_kept self.old) }
+    /// Makes ready for `clear` the words that `len` bytes from `at` on overlap. It changes no cell, and what can fail for a block is
+    /// here. Words that are all brought and kept are never refused.
+    fn ready_to_clear(
+        &mut self,
+        at: u64,
+        len: u32,
+        segments: u32,
+        sets: &SetTable,
+    ) -> Result<(), Refusal>
+        requires lawful { may_bring self.old segments (length sets.now.sets) }
         requires some { 0 < len }
         requires few { len ≤ GREATEST_BLOCK }
         requires within { at + len ≤ 2 ^ 64 }
+        ensures cells { (n m : ℕ) → is_faithful self.old n m → SameCells (cell_of self.old) (cell_of self.new) }
+        ensures ready { OnOk result (may_clear self.new at len) }
+        ensures again { NeverRefuses at len (λ w. is_brought self.old w × is_kept self.old w) result }
+        ensures lawful { KeepsLawFrom segments (length sets.now.sets) (may_bring self.old) (may_bring self.new) }
+        ensures faithful { KeepsLaw (is_faithful self.old) (is_faithful self.new) }
+        ensures refusal { IfErr result (may_refuse self.new) }
+        ensures undamaged { reads_true self.old segments sets.now.sets → IfErr result (λ r. r ≢ Damaged) }
+        ensures went { went self.old self.new }
+        ensures failures { failures self.new ≡ failed_after result (failures self.old) };
+
+    /// Makes new the words that `len` bytes from `at` on overlap.
+    fn clear(&mut self, at: u64, len: u32)
+        requires { may_clear self.old at len }
         ensures cells { (w : ℕ) → cell_of self.new w ≡ (if overlaps at len w then New else cell_of self.old w) }
         ensures lawful { KeepsLaw (may_bring self.old) (may_bring self.new) }
         ensures faithful { KeepsLaw (is_faithful self.old) (is_faithful self.new) }

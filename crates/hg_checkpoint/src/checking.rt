@@ -7,17 +7,19 @@ ghost use Rattle.hg_root.specs.Lawful.{IsLawful};
 ghost use Rattle.hg_root.specs.Roots.{parts_of};
 ghost use Rattle.hg_checkpoint.specs.NamedPages.{HasPageIn, HasPagesOf, LacksPage, LacksPages};
 
+use hg_cells::Page;
 use hg_disk::Disk;
 use hg_pages::{SlotFault, SlotFile};
 use hg_root::{PageSlot, Root};
 use hg_sets::SetTable;
 
-// Reads one page. Its cells may name segments below this number and sets of the table.
+// Reads one page, into a page whose cells are of no more use. Its cells may name segments below this number and sets of the table.
 fn check_page<D: Disk>(
     page: PageSlot,
     segments: u32,
     sets: &SetTable,
     file: &mut SlotFile<D>,
+    cells: &mut Page,
 ) -> Result<(), SlotFault>
     ensures stands { IsTrue D.is_honest → OnOk result (HasPageIn ⟦<D as Disk>⟧ file.old segments sets.now.sets page) }
     ensures damaged { IsTrue D.is_honest → LacksPage ⟦<D as Disk>⟧ file.old segments sets.now.sets page result }
@@ -26,8 +28,7 @@ fn check_page<D: Disk>(
     ensures memory { ¬ IsErrOf result SlotFault.OutOfMemory }
     ensures broken { IsErrOf result SlotFault.Broken → IsTrue (is_broken file.old) }
 {
-    let _cells = file.read_page(page.slot, page.page, segments, sets)?;
-    Ok(())
+    file.read_page(page.slot, page.page, segments, sets, cells)
 }
 
 /// Reads each page that a root names from its slot, and checks its cells. `Damaged` exactly if the slots have the pages of
@@ -43,8 +44,9 @@ pub fn check_slots<D: Disk>(root: &Root, file: &mut SlotFile<D>) -> Result<(), S
     ensures broken { IsErrOf result SlotFault.Broken → IsTrue (is_broken file.old) }
 {
     let segments = root.segments.len() as u32;
+    let mut cells = Page::new();
     for i in 0..root.pages.len() {
-        check_page(root.pages[i], segments, &root.sets, file)?;
+        check_page(root.pages[i], segments, &root.sets, file, &mut cells)?;
     }
     Ok(())
 }

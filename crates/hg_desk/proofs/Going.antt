@@ -1,5 +1,7 @@
 -- Each step goes on from the store before it.
-use Rattle.std.proofs.Common.{◌≡◌, inl, inr, ◌≤◌, ◌++◌, ◌+◌, ℕ, List, [], ◌∷◌, map, Bool, true, false, if◌then◌else◌, Some, None, Ok, Err, Result, IsTrue, refl, sym, ap, ◌∙◌, subst, arith}
+use Rattle.std.proofs.Common.{◌≡◌, inl, inr, ◌≤◌, ◌++◌, ◌+◌, ℕ, List, [], ◌∷◌, map, Bool, true, false, ◌⊎◌, ◌<◌, cond, if◌then◌else◌, Some, None, Ok, Err, Result, IsTrue, OnOk, refl, sym, ap, ◌∙◌, subst, arith}
+use Rattle.std.proofs.Math.Nat.{eq-or-lt_of_le}
+use Rattle.std.proofs.lemmas.Bool.{false≢true}
 use Rattle.hg_model.specs.declared.verdict.Refusal.{Refusal}
 use Rattle.hg_model.specs.declared.verdict.Refusal.TheVariants as refusal
 use Rattle.hg_model.specs.Contents.{Content}
@@ -15,6 +17,10 @@ use Rattle.hg_disk.specs.declared.disk.Disk as disk
 use Rattle.hg_detect.specs.Shown as detect
 use Rattle.hg_pool.specs.Maps as pools
 use Rattle.hg_pool.specs.Shown as pool
+use Rattle.hg_checkpoint.specs.Phases.{failed_in}
+use Rattle.hg_checkpoint.specs.declared.cause.Cause.{Cause}
+use Rattle.hg_detect.specs.declared.detector.Answer.{Answer}
+use Rattle.hg_store.specs.Answers.{IfRefused, IfWrongPhase, LeavesOrBreaks, failed_by}
 use Rattle.hg_store.specs.Journal.{after_refusal, failed_after}
 use Rattle.hg_contents.specs.Choices.{Stands}
 use Rattle.hg_contents.specs.Images.{Image}
@@ -24,13 +30,16 @@ use Rattle.hg_store.specs.declared.steps.Step.{Step}
 use Rattle.hg_store.specs.declared.steps.Step.TheVariants as step
 use Rattle.hg_store.specs.declared.steps.StepResult.{StepResult}
 use Rattle.hg_store.specs.declared.steps.StepResult.TheVariants as told
-use Rattle.hg_store.specs.Doing.{ContentDone, StepDone, fails_by, in_doubt_during}
+use Rattle.hg_store.specs.Doing.{ContentDone, FreezeDone, StepDone, fails_by, in_doubt_during}
 use Rattle.hg_store.specs.Images.{EachImage, EachImageAlong, IsOn, MayLeaveAll, failures_of}
 use Rattle.hg_store.specs.Shown.{ShownStore, live, saved}
-use Rattle.hg_store.specs.Steps.{CommitDone, if_accepted}
+use Rattle.hg_store.specs.Paging.{MovesOnlyPages}
+use Rattle.hg_store.specs.Steps.{CommitDone, OfferDone, if_accepted}
+use Rattle.hg_store.specs.declared.steps.StepFault.{StepFault}
+use Rattle.hg_store.specs.declared.steps.StepFault.TheVariants.{Refused, WrongPhase}
 use Rattle.hg_store.specs.Store.{Backs}
 use Rattle.hg_store.proofs.Moments.{all_still}
-use Rattle.hg_desk.specs.Going.{Began, LeadsTo, Point, WentOn, began, of_points, oldest, points_of}
+use Rattle.hg_desk.specs.Going.{Began, FailedFrom, LeadsTo, Point, WentOn, began, of_points, oldest, points_of}
 use Rattle.hg_desk.specs.Told.{HasAcked}
 
 one_more : (b : Bool) (k : ℕ) → k ≤ (if b then k + 1 else k)
@@ -75,6 +84,12 @@ stands_on durable last in_doubt image leads (inr is) = record { content = last; 
 
 same_leads : (a b : Content) → b ≡ a → LeadsTo a b
 same_leads a b same = subst (λ (c : Content). LeadsTo a c) (sym same) (nowhere a)
+
+one_is_none : (n : ℕ) → n + 1 ≡ n → ⊥
+one_is_none n is = absurd (omega (arith, is))
+
+none_is_one : (n : ℕ) → 1 + n ≡ n → ⊥
+none_is_one n is = absurd (omega (arith, is))
 
 -- no call that failed is taken back
 more_failed : (r : Refusal) (n : ℕ) → n ≤ after_refusal r n
@@ -175,6 +190,7 @@ module _ {D : Type 0} (g : disk.Ghosts D) where
         follows = λ honest. nowhere (live g s);
         durable = λ honest. nowhere (saved g s);
         failed = omega (arith, same);
+        broken = λ works is. absurd (false≢true (sym works ∙ is));
         opening = refl;
         images = λ honest. each_to_points s.devices s.devices (IsOn (saved g s) (live g s)) (all_still g s.devices (IsOn (saved g s) (live g s))
             (λ image left. stands_on (saved g s) (live g s) s.in_doubt image (s.pending, (backs honest).live) ((backs honest).stands image left)));
@@ -214,6 +230,70 @@ module _ {D : Type 0} (g : disk.Ghosts D) where
     saved_leads step.Evict result done leads = same_leads (saved g old) (saved g new) (saved_same done.2.moves.same.committed)
     saved_leads (step.Load page) result done leads = same_leads (saved g old) (saved g new) (saved_same done.2.moves.same.committed)
 
+    works_and_broken : {X : Type 0} → new.is_broken ≡ false → new.is_broken ≡ true → X
+    works_and_broken works is = absurd (false≢true (sym works ∙ is))
+
+    -- ---- a step of which no call failed does not break a store
+
+    was_broken : new.is_broken ≡ old.is_broken → new.is_broken ≡ true → old.is_broken ≡ true
+    was_broken same is = sym same ∙ is
+
+    still_broken : new ≡ old → new.is_broken ≡ true → old.is_broken ≡ true
+    still_broken same = was_broken (ap (λ (s : ShownStore D). s.is_broken) same)
+
+    offer_broken : (n : Named) (r : Result Answer Refusal) (k : ℕ) → OfferDone g old new n r → failed_after r k ≡ k → new.is_broken ≡ true → old.is_broken ≡ true
+    offer_broken n r k done none = was_broken (done.breaks (λ is. one_is_none k (subst (λ (x : Result Answer Refusal). failed_after x k ≡ k) is none)))
+
+    refused_broken : (b : Bool) (r : Refusal) (k : ℕ) → b ≡ old.is_broken → r ≡ cond b refusal.Broken refusal.DeviceFault → after_refusal r k ≡ k → old.is_broken ≡ true
+    refused_broken true r k is answer none = sym is
+    refused_broken false r k is answer none = absurd (one_is_none k (subst (λ (x : Refusal). after_refusal x k ≡ k) answer none))
+
+    commit_broken : (r : Result ℕ Refusal) (k : ℕ) → CommitDone g old new r → failed_after r k ≡ k → new.is_broken ≡ true → old.is_broken ≡ true
+    commit_broken (Ok count) k done none is = works_and_broken done.answer.works is
+    commit_broken (Err r) k done none is = refused_broken old.is_broken r k refl done.answer.answer none
+
+    freeze_broken : (r : Result (Unit {0}) StepFault) → FreezeDone old new r → new.is_broken ≡ true → old.is_broken ≡ true
+    freeze_broken (Ok done) all is = works_and_broken all.done.works is
+    freeze_broken (Err fault) all is = still_broken all.refused is
+
+    moved_broken : {T : Type 0} (r : Result T StepFault) (k : ℕ) → MovesOnlyPages old new r → failed_by r + k ≡ k → new.is_broken ≡ true → old.is_broken ≡ true
+    moved_broken {T} r k moves none = was_broken (moves.breaks (λ is. none_is_one k (subst (λ (x : Result T StepFault). failed_by x + k ≡ k) is none)))
+
+    checkpoint_broken : {T : Type 0} (r : Result T StepFault) (k : ℕ) → OnOk r (new.is_broken ≡ false) → IfWrongPhase (new ≡ old) r → IfRefused (LeavesOrBreaks old new) r → failed_by r + k ≡ k
+        → new.is_broken ≡ true → old.is_broken ≡ true
+    checkpoint_broken (Ok value) k works wrong refused none is = works_and_broken works is
+    checkpoint_broken (Err (WrongPhase p)) k works wrong refused none is = still_broken wrong is
+    checkpoint_broken (Err (Refused r)) k works wrong refused none is =
+        still_broken (refused.1 (λ device. none_is_one k (subst (λ (x : Cause). failed_in x + k ≡ k) device none))) is
+
+    step_broken : (step : Step) (result : StepResult) (k : ℕ) → StepDone g old new step result → fails_by result k ≡ k → new.is_broken ≡ true → old.is_broken ≡ true
+    step_broken (step.Offer n) result k done none = offer_broken n done.0 k done.2 (subst (λ (r : StepResult). fails_by r k ≡ k) done.1 none)
+    step_broken step.Commit result k done none = commit_broken done.0 k done.2 (subst (λ (r : StepResult). fails_by r k ≡ k) done.1 none)
+    step_broken step.Freeze result k done none = freeze_broken done.0 done.2
+    step_broken step.TakeJob result k done none = still_broken done.2.same
+    step_broken (step.Put page) result k done none =
+        let all = done.2.done in checkpoint_broken done.0 k all.works all.unchanged all.refused (subst (λ (r : StepResult). fails_by r k ≡ k) done.1 none)
+    step_broken step.SealPages result k done none =
+        let all = done.2.done in checkpoint_broken done.0 k all.works all.unchanged all.refused (subst (λ (r : StepResult). fails_by r k ≡ k) done.1 none)
+    step_broken step.PrepareRoot result k done none =
+        let all = done.2.done in checkpoint_broken done.0 k all.works all.unchanged all.refused (subst (λ (r : StepResult). fails_by r k ≡ k) done.1 none)
+    step_broken step.WriteRoot result k done none =
+        let all = done.2.done in checkpoint_broken done.0 k all.works all.unchanged all.refused (subst (λ (r : StepResult). fails_by r k ≡ k) done.1 none)
+    step_broken step.OpenRoot result k done none =
+        let all = done.2.done in checkpoint_broken done.0 k all.works all.unchanged all.refused (subst (λ (r : StepResult). fails_by r k ≡ k) done.1 none)
+    step_broken step.Evict result k done none = moved_broken done.0 k done.2.moves (subst (λ (r : StepResult). fails_by r k ≡ k) done.1 none)
+    step_broken (step.Load page) result k done none = moved_broken done.0 k done.2.moves (subst (λ (r : StepResult). fails_by r k ≡ k) done.1 none)
+
+    -- what broke a store that worked at the opening is counted
+    broken_on : (start : Began) (moments : List (Devices D)) (step : Step) (result : StepResult) → WentOn g start moments old → StepDone g old new step result
+        → failures_of g new.devices ≡ fails_by result (failures_of g old.devices) → start.is_broken ≡ false → new.is_broken ≡ true → FailedFrom g start new
+    broken_on start moments step result went done device works is = by (eq-or-lt_of_le (more_fail result (failures_of g old.devices))) where
+      by : (failures_of g old.devices ≡ fails_by result (failures_of g old.devices)) ⊎ (failures_of g old.devices < fails_by result (failures_of g old.devices)) → FailedFrom g start new
+      by (inl same) =
+          let less = went.broken works (step_broken step result (failures_of g old.devices) done (sym same) is) in
+          omega (arith, less, same, device)
+      by (inr more) = let before = went.failed in omega (arith, before, more, device)
+
     -- one step more
     pub step_went : (start : Began) (moments : List (Devices D)) (step : Step) (result : StepResult) → WentOn g start moments old → StepDone g old new step result
         → (IsTrue g.is_honest → ContentDone g old new step result) → failures_of g new.devices ≡ fails_by result (failures_of g old.devices) → (IsTrue g.is_honest → Backs g old)
@@ -223,6 +303,7 @@ module _ {D : Type 0} (g : disk.Ghosts D) where
       follows = λ honest. further start.live (live g old) (live g new) (went.follows honest) (live_leads step result (content honest));
       durable = λ honest. further start.saved (saved g old) (saved g new) (went.durable honest) (saved_leads step result done (old.pending, (backs honest).live));
       failed = omega (arith, went.failed, device, more_fail result (failures_of g old.devices));
+      broken = broken_on start moments step result went done device;
       opening = went.opening;
       images = λ honest.
           let on = live_leads step result (content honest) in

@@ -1,5 +1,5 @@
 -- How a store that threads share has gone on since the lock was opened over it.
-use Rattle.std.specs.Prelude.{◌≡◌, ◌≤◌, ◌<◌, ℕ, List, [], ◌∷◌, map, Bool, Option, Some, IsTrue}
+use Rattle.std.specs.Prelude.{◌≡◌, ◌≤◌, ◌<◌, ℕ, List, [], ◌∷◌, map, Bool, true, false, Option, Some, IsTrue}
 use Rattle.hg_model.specs.declared.event.Named.{Named}
 use Rattle.hg_model.specs.Contents.{Content}
 use Rattle.hg_model.specs.Change.{followed}
@@ -23,11 +23,12 @@ pub record Point : Type 0 where
 abbrev pub of_points : Bool → disk.Ghosts Point
 of_points is_honest = record { is_honest = is_honest; state = λ p. p.state; past = λ p. p.past; failures = λ p. p.failures }
 
--- A store at the opening of the lock: its devices, its content with all accepted events, and its durable content.
+-- A store at the opening of the lock: its devices, its content with all accepted events, its durable content, and whether it was broken.
 pub record Began : Type 0 where
   pub devices : Devices Point
   pub live : Content
   pub saved : Content
+  pub is_broken : Bool
 
 -- the oldest of `now` and the items of a list, which has the newest first; `now` is the newest of all
 abbrev pub oldest : {X : Type 0} → X → List X → X
@@ -42,23 +43,24 @@ module _ {D : Type 0} (g : disk.Ghosts D) where
   points_of devices = record { journal = point_of devices.journal; slots = point_of devices.slots; root0 = point_of devices.root0; root1 = point_of devices.root1 }
 
   abbrev pub began : ShownStore D → Began
-  began s = record { devices = points_of s.devices; live = live g s; saved = saved g s }
+  began s = record { devices = points_of s.devices; live = live g s; saved = saved g s; is_broken = s.is_broken }
+
+  -- A call of a device has failed since the opening.
+  abbrev pub FailedFrom : Began → ShownStore D → Type 0
+  FailedFrom start now = failures_of (of_points g.is_honest) start.devices < failures_of g now.devices
 
   -- A store goes on from what it was at the opening: more events may be accepted, and become durable, and no event is lost, in memory or
-  -- in an image. The devices went through these moments, the newest first; the oldest is the opening. Over honest devices each image
+  -- in an image. Only a failed call breaks it. The devices went through these moments, the newest first; the oldest is the opening. Over honest devices each image
   -- between two neighbours of them has the content after a front of the accepted events, with at least those that were durable at the
   -- opening.
   pub record WentOn (start : Began) (moments : List (Devices D)) (now : ShownStore D) : Type 0 where
     pub follows : IsTrue g.is_honest → LeadsTo start.live (live g now)
     pub durable : IsTrue g.is_honest → LeadsTo start.saved (saved g now)
     pub failed : failures_of (of_points g.is_honest) start.devices ≤ failures_of g now.devices
+    pub broken : start.is_broken ≡ false → now.is_broken ≡ true → FailedFrom start now
     pub opening : oldest (points_of now.devices) (map points_of moments) ≡ start.devices
     pub images : IsTrue g.is_honest → EachImageAlong (of_points g.is_honest) start.devices (map points_of moments) (points_of now.devices) (IsOn start.saved (live g now))
 
   -- The store went on from what it was at the opening of the lock, where that is known.
   abbrev pub WentOnSince : Option Began → List (Devices D) → ShownStore D → Type 0
   WentOnSince opening moments now = (start : Began) → opening ≡ Some start → WentOn start moments now
-
-  -- A call of a device failed since the opening of the lock, where that is known.
-  abbrev pub FailedSince : Option Began → ShownStore D → Type 0
-  FailedSince opening now = (start : Began) → opening ≡ Some start → failures_of (of_points g.is_honest) start.devices < failures_of g now.devices

@@ -3,8 +3,6 @@
 ghost use Rattle.std.specs.Prelude.{◌≡◌, ◌+◌, ◌<◌, ◌≤◌, ◌^◌, ◌∷◌, ℕ, Ok, Err, cond, false, vec_len, All, IfOk, IfSome, IfErr, IsTrue};
 ghost use Rattle.hg_model.specs.declared.verdict.Refusal.TheVariants.{Broken};
 ghost use Rattle.hg_protocol.specs.Spelling.{FitsFrames};
-ghost use Rattle.hg_store.specs.Doing.{fails_by};
-ghost use Rattle.hg_store.specs.Journal.{failed_after};
 ghost use Rattle.hg_store.specs.Shown.{HasCounted, live, saved};
 ghost use Rattle.hg_store.specs.Store.{Backs};
 ghost use Rattle.hg_desk.specs.Blanks.{IsBlankOf};
@@ -42,8 +40,6 @@ pub struct Core<D: Disk, A: Opening, B: Column> {
     pub(crate) accepted_count: u64,
     pub(crate) durable_count: u64,
     pub(crate) moments: Trail<Moment<D>>,
-    /// Whether the answer of a step told a device failure.
-    pub(crate) has_failed: bool,
     /// The acknowledgements that were given.
     pub(crate) acks: Register<A>,
 }
@@ -56,7 +52,7 @@ impl<D: Disk, A: Opening, B: Column> Model for Core<D, A, B> {
 
     ghost view = { λ c. c.store };
 
-    ghost invariant = { λ c. IsCore ⟦<D as Disk>⟧ A.start A.opening B.opening c.store c.accepted.total c.durable.total c.accepted_count c.durable_count c.moments c.has_failed c.acks };
+    ghost invariant = { λ c. IsCore ⟦<D as Disk>⟧ A.start A.opening B.opening c.store c.accepted.total c.durable.total c.accepted_count c.durable_count c.moments c.acks };
 }
 
 /// How many events were accepted and made durable since the opening.
@@ -149,34 +145,6 @@ fn durable_by(before: u64, answer: &StepResult) -> u64
     }
 }
 
-/// Whether an offer or a commit tells a device failure.
-fn is_failure<T>(answer: &Result<T, Refusal>) -> bool
-    ensures { IsTrue result → (n : ℕ) → n < failed_after answer.now n }
-{
-    match answer {
-        Err(Refusal::DeviceFault) => true,
-        _ => false,
-    }
-}
-
-/// Whether the answer of a step tells a device failure.
-fn tells_failure(answer: &StepResult) -> bool
-    ensures { IsTrue result → (n : ℕ) → n < fails_by answer.now n }
-{
-    match answer {
-        StepResult::Offered(answer) => is_failure(answer),
-        StepResult::Committed(answer) => is_failure(answer),
-        StepResult::Put(Err(StepFault::Refused(Cause::DeviceFault))) => true,
-        StepResult::Sealed(Err(StepFault::Refused(Cause::DeviceFault))) => true,
-        StepResult::Prepared(Err(StepFault::Refused(Cause::DeviceFault))) => true,
-        StepResult::Written(Err(StepFault::Refused(Cause::DeviceFault))) => true,
-        StepResult::Opened(Err(StepFault::Refused(Cause::DeviceFault))) => true,
-        StepResult::Evicted(Err(StepFault::Refused(Cause::DeviceFault))) => true,
-        StepResult::Loaded(Err(StepFault::Refused(Cause::DeviceFault))) => true,
-        _ => false,
-    }
-}
-
 /// Notes the moment at which a step begins. Answers how many events are durable then, 0 where the store is broken.
 fn note_moment<D: Disk>(store: &Store<D>, moments: &mut Trail<Moment<D>>) -> u64
     ensures moments { moments.new ≡ store.now.devices ∷ moments.old }
@@ -232,7 +200,6 @@ impl<D: Disk, A: Opening, B: Column> Core<D, A, B> {
             accepted_count: 0,
             durable_count: 0,
             moments: Trail::new(),
-            has_failed: false,
             acks,
         };
         Ok((core, all))
@@ -247,7 +214,6 @@ impl<D: Disk, A: Opening, B: Column> Core<D, A, B> {
         let before = note_moment(&self.store, &mut self.moments);
         let result = self.store.step(alloc, step);
         let _more = self.store.events();
-        self.has_failed = self.has_failed || tells_failure(&result);
         note_accepted(
             &mut self.accepted,
             &mut self.accepted_count,
@@ -270,7 +236,6 @@ impl<D: Disk, A: Opening, B: Column> Core<D, A, B> {
         let _before = note_moment(&self.store, &mut self.moments);
         let answer = self.store.offer(named);
         let _more = self.store.events();
-        self.has_failed = self.has_failed || is_failure(&answer);
         note_accepted(
             &mut self.accepted,
             &mut self.accepted_count,
@@ -287,7 +252,6 @@ impl<D: Disk, A: Opening, B: Column> Core<D, A, B> {
         let before = note_moment(&self.store, &mut self.moments);
         let answer = self.store.commit();
         let _more = self.store.events();
-        self.has_failed = self.has_failed || is_failure(&answer);
         note_durable(
             &mut self.durable,
             &mut self.durable_count,

@@ -4,7 +4,7 @@ ghost use Rattle.std.specs.Prelude.{◌≡◌, ◌+◌, ◌≤◌, ◌⊎◌, �
 ghost use Rattle.hg_receipts.specs.Receipts.{AreAmong};
 ghost use Rattle.hg_store.specs.Shown.{live, saved};
 ghost use Rattle.hg_desk.specs.Blanks.{IsBlankOf};
-ghost use Rattle.hg_desk.specs.Going.{FailedSince, WentOnSince, began};
+ghost use Rattle.hg_desk.specs.Going.{WentOnSince, began};
 ghost use Rattle.hg_desk.specs.Counting.{AreAcked, AreDisputed, HasTheirAcks, HasTheirDurable, HasTheirEvents, ImagesHaveThem, WhereAll, accepted_in, durable_in, events_of};
 ghost use Rattle.hg_desk.specs.Told.{nothing_told};
 
@@ -32,8 +32,6 @@ pub struct TakenIn<D: Disk> {
     pub store: Store<D>,
     /// The moments at which the steps since the opening began, the newest first, which contracts alone see.
     pub moments: Trail<Moment<D>>,
-    /// Whether the answer of a step told a device failure.
-    pub has_failed: bool,
 }
 
 /// What the shares were told, and what the books have.
@@ -83,7 +81,6 @@ impl<D: Disk, A: Opening, B: Column> Shared<D, A, B> {
     /// Takes the store back without comparing shares with the books, for where shares are lost.
     pub fn into_store(self) -> TakenIn<D>
         ensures since { WentOnSince ⟦<D as Disk>⟧ A.start result.moments result.store }
-        ensures failed { IsTrue result.has_failed → FailedSince ⟦<D as Disk>⟧ A.start result.store }
     {
         self.core.into_inner().into_store()
     }
@@ -140,7 +137,6 @@ impl<D: Disk, A: Opening, B: Column> Core<D, A, B> {
     fn into_store(self) -> TakenIn<D>
         ensures store { result.store ≡ self }
         ensures since { WentOnSince ⟦<D as Disk>⟧ A.start result.moments result.store }
-        ensures failed { IsTrue result.has_failed → FailedSince ⟦<D as Disk>⟧ A.start result.store }
     {
         let Core {
             store,
@@ -149,14 +145,9 @@ impl<D: Disk, A: Opening, B: Column> Core<D, A, B> {
             accepted_count: _,
             durable_count: _,
             moments,
-            has_failed,
             acks: _,
         } = self;
-        TakenIn {
-            store,
-            moments,
-            has_failed,
-        }
+        TakenIn { store, moments }
     }
 }
 
@@ -248,7 +239,6 @@ pub fn gather<D: Disk, A: Opening, B: Column>(
     ensures events { IsTrue D.is_honest → IfOk result (HasTheirEvents ⟦<D as Disk>⟧ A.opening shares.items) }
     ensures durable { IsTrue D.is_honest → IfOk result (HasTheirDurable ⟦<D as Disk>⟧ B.opening shares.items) }
     ensures since { IfOk result (λ r. WentOnSince ⟦<D as Disk>⟧ A.start r.moments r.store) }
-    ensures failed { IfOk result (λ r. IsTrue r.has_failed → FailedSince ⟦<D as Disk>⟧ A.start r.store) }
     ensures images { IsTrue D.is_honest → IfOk result (ImagesHaveThem ⟦<D as Disk>⟧ B.opening shares.items) }
     // What the shares were told is acknowledged, the durable content has.
     ensures acked { IsTrue D.is_honest → IfOk result (HasTheirAcks ⟦<D as Disk>⟧ shares.items) }

@@ -314,7 +314,7 @@ impl<W: Words> Engine<W> {
     }
 
     /// Accepts an alloc or a free of a block: its words become new.
-    fn reset(&mut self, named: &Named, block: &Block) -> Result<(), Refusal>
+    fn clear_block(&mut self, named: &Named, block: &Block) -> Result<(), Refusal>
         requires event { (named.now.event ≡ Event.Alloc block.now) ⊎ (named.now.event ≡ Event.Free block.now) }
         requires sound { IsSound self.old }
         requires accepted { MayBeNext self.old.state named.now }
@@ -323,11 +323,12 @@ impl<W: Words> Engine<W> {
         ensures went { W.went self.old.words self.new.words }
         ensures failures { W.failures self.new.words ≡ failed_after result (W.failures self.old.words) }
     {
+        let len = u32::from(block.len);
+        let segments = self.state.segments();
         self.words
-            .bring(block.at, block.len, self.state.segments(), &self.sets)?;
-        self.words.keep(block.at, block.len)?;
+            .ready_to_clear(block.at, len, segments, &self.sets)?;
         self.state.follow(named);
-        self.words.reset(block.at, block.len);
+        self.words.clear(block.at, len);
         Ok(())
     }
 
@@ -359,7 +360,7 @@ impl<W: Words> Engine<W> {
             Event::Join { p, c } => self.join(named, *p, *c),
             Event::Send { t, k } => self.send(named, *t, *k),
             Event::Recv { t, k } => self.recv(named, *t, *k),
-            Event::Alloc(block) | Event::Free(block) => self.reset(named, block),
+            Event::Alloc(block) | Event::Free(block) => self.clear_block(named, block),
             Event::Lock { t, l } => {
                 let (t, l, kind) = (*t, *l, HoldKind::Lock);
                 self.hold(named.source, named.number, Hold { t, l, kind });

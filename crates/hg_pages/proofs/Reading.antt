@@ -115,12 +115,19 @@ shared part threads before is = by (nat_le 2 (get_or part 0 0)) refl is
     by true test is = inl (leb-true 2 (get_or part 0 0) test, sym is)
     by false test is = inr is
 
-pub lacks : (bytes : List ℕ) (sets : List (List ℕ)) (word threads before : ℕ) → word < 256 → threads ≡ threads_in_or (cell_bytes bytes word) before → (before ≡ 4294967295) ⊎ IsThreadSet sets before → ¬ ((threads ≡ 4294967295) ⊎ IsThreadSet sets threads)
+pub lacks : (bytes : List ℕ) (sets : List (List ℕ)) (word threads before : ℕ) → word < 256 → threads ≡ threads_in_or (cell_bytes bytes word) before → ¬ ((threads ≡ before) ⊎ IsThreadSet sets threads)
     → LacksThreadSet sets bytes
-lacks bytes sets word threads before lt is was not =
+lacks bytes sets word threads before lt is not =
     ⊎_elim (λ (by : IsSharedBy threads (cell_bytes bytes word)). (word, threads, lt, by, λ set. not (inr set)))
-    (λ (same : threads ≡ before). absurd (not (subst (λ (n : ℕ). (n ≡ 4294967295) ⊎ IsThreadSet sets n) (sym same) was)))
+    (λ (same : threads ≡ before). absurd (not (inl same)))
     (shared (cell_bytes bytes word) threads before is)
+
+-- what is known of the threads before, of these too
+pub set_or_none : (sets : List (List ℕ)) (threads before : ℕ) → (before ≡ 4294967295) ⊎ IsThreadSet sets before → (threads ≡ before) ⊎ IsThreadSet sets threads → (threads ≡ 4294967295) ⊎ IsThreadSet sets threads
+set_or_none sets threads before was set =
+    ⊎_elim (λ (same : threads ≡ before). subst (λ (n : ℕ). (n ≡ 4294967295) ⊎ IsThreadSet sets n) (sym same) was)
+    (λ (is_set : IsThreadSet sets threads). inr is_set)
+    set
 
 pub sets_more : (bytes : List ℕ) (sets : List (List ℕ)) (word threads before : ℕ) → length sets < 2 ^ 32 → threads ≡ threads_in_or (cell_bytes bytes word) before → (threads ≡ 4294967295) ⊎ IsThreadSet sets threads → HaveThreadSets sets word bytes
     → HaveThreadSets sets (word + 1) bytes

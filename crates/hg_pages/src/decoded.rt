@@ -100,12 +100,12 @@ fn read_cells(bytes: &[u8], segments: u32, sets: u32, cells: &mut Page) -> bool
     are_right
 }
 
-// Whether this is the number of no set, or that of a set of threads.
+// Whether a set is the one before, or a set of threads.
 #[inline(always)]
-fn is_none_or_thread_set(sets: &SetTable, id: u32) -> bool
-    ensures { IsTrue result ↔ (id ≡ 4294967295) ⊎ IsThreadSet sets.now.sets id }
+fn is_before_or_thread_set(sets: &SetTable, id: u32, before: u32) -> bool
+    ensures { IsTrue result ↔ (id ≡ before) ⊎ IsThreadSet sets.now.sets id }
 {
-    if id == NO_SET {
+    if id == before {
         return true;
     }
     is_thread_set(sets, id)
@@ -125,8 +125,8 @@ fn has_shared(bytes: &[u8]) -> bool
     has_one
 }
 
-// Whether the threads of each shared cell can be. Those of the shared cell before stand for a cell that is not shared, so that
-// what is done depends on no kind of cell.
+// Whether the threads of each shared cell can be. Those of the shared cell before stand for a cell that is not shared, and the table
+// is asked only where they change from one cell to the next: most pages have one set of threads, or a few.
 #[inline(always)]
 fn have_thread_sets(bytes: &[u8], sets: &SetTable) -> bool
     requires { length bytes.now ≡ SLOT_LEN }
@@ -139,8 +139,9 @@ fn have_thread_sets(bytes: &[u8], sets: &SetTable) -> bool
     }
     let mut threads = NO_SET;
     for word in 0..PAGE_WORDS {
-        threads = threads_or(cell_part(bytes, word), threads);
-        if !is_none_or_thread_set(sets, threads) {
+        let before = threads;
+        threads = threads_or(cell_part(bytes, word), before);
+        if !is_before_or_thread_set(sets, threads, before) {
             return false;
         }
     }

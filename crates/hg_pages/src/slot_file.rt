@@ -213,21 +213,23 @@ impl<D: Disk> SlotFile<D> {
         Ok(EncodedPage::of(page, bytes))
     }
 
-    /// The cells of a page from its slot, checked against the number of segments and the table of sets. `Damaged` if the
-    /// slot is not the slot of this page (`decode`), or does not lie within the file. The file stays as it is, and after an
-    /// `Err` it can be tried again. It makes one device call at most, and takes no memory.
+    /// Reads the cells of a page from its slot into a page, checked against the number of segments and the table of sets.
+    /// `Damaged` if the slot is not the slot of this page (`decode`), or does not lie within the file. The file stays as it
+    /// is, and after an `Err` it can be tried again; the page has any cells then. It makes one device call at most, and takes
+    /// no memory.
     pub fn read_page(
         &mut self,
         slot: u32,
         page: u64,
         segments: u32,
         sets: &SetTable,
-    ) -> Result<Page, SlotFault>
-        ensures read { ReadsPage ⟦<D as Disk>⟧ self.old slot page segments sets.now.sets result }
+        cells: &mut Page,
+    ) -> Result<(), SlotFault>
+        ensures read { ReadsPage ⟦<D as Disk>⟧ self.old slot page segments sets.now.sets cells.new result }
         ensures damaged { TellsTrueDamage ⟦<D as Disk>⟧ self.old slot page segments sets.now.sets result }
 
         // Even on a disk that lies, the cells name only known segments and sets.
-        ensures named { IfOk result (AreKnown segments sets.now.sets) }
+        ensures named { OnOk result (AreKnown segments sets.now.sets cells.new) }
         ensures memory { ¬ IsErrOf result SlotFault.OutOfMemory }
         ensures stays { WasRead ⟦<D as Disk>⟧ 1 self.old self.new }
         ensures device { D.failures (disk_of self.new) ≡ failures_after result (D.failures (disk_of self.old)) }
@@ -235,11 +237,10 @@ impl<D: Disk> SlotFile<D> {
     {
         let mut bytes = [0; SLOT_LEN];
         self.fill(slot, &mut bytes)?;
-        let mut cells = Page::new();
-        if !decode_into(&bytes, page, segments, sets, &mut cells) {
+        if !decode_into(&bytes, page, segments, sets, cells) {
             return Err(SlotFault::Damaged);
         }
-        Ok(cells)
+        Ok(())
     }
 
     // Fills a buffer with the bytes of a slot.

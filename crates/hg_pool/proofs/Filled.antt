@@ -23,7 +23,7 @@ pub record IsFilled (page from to : ℕ) (cell : Cell) (f : Frame) (old new : Li
   pub in_page : to ≤ 256
   pub looks : (q : ℕ) → frame_in new q ≡ (if page == q then Some (record { cells = filled f.cells from to cell; is_dirty = true }) else frame_in old q)
 
-abbrev is_inside : ℕ → ℕ → ℕ → ℕ → Bool
+abbrev pub is_inside : ℕ → ℕ → ℕ → ℕ → Bool
 is_inside page from to w = (w / 256 == page) && (nat_le from (w % 256) && nat_lt (w % 256) to)
 
 -- some cells of a page are given one

@@ -15,7 +15,7 @@ use Rattle.hg_cache.proofs.Lookups.{if_false, if_true, itself, same_number}
 use Rattle.hg_pool.proofs.Stepping.{each_page, sound_frames}
 
 -- the present cells of a page that does not wait, or was copied, are not the frozen ones
-not_present : (w : Option ℕ) (copy : Option (List Cell)) (written one two : Cell) (i : ℕ) → (w ≡ None) ⊎ (is_some copy ≡ true) → frozen_by w copy written one i ≡ frozen_by w copy written two i
+pub not_present : (w : Option ℕ) (copy : Option (List Cell)) (written one two : Cell) (i : ℕ) → (w ≡ None) ⊎ (is_some copy ≡ true) → frozen_by w copy written one i ≡ frozen_by w copy written two i
 not_present None copy written one two i settled = refl
 not_present (Some s) (Some cells) written one two i settled = refl
 not_present (Some s) None written one two i (inl none) = absurd (cc none)

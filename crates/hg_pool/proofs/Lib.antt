@@ -8,6 +8,7 @@ pub mod Moving
 pub mod Writing
 pub mod FromSlots
 pub mod Filling
+pub mod GivingUp
 pub mod Sealed
 pub mod Collecting
 pub mod Picked

@@ -65,6 +65,14 @@ FillsPage page from to cell old new =
     (f : Frame) → frame_in old page ≡ Some f
     → (length f.cells ≡ 256) × ((q : ℕ) → frame_in new q ≡ (if page == q then Some (record { cells = filled f.cells from to cell; is_dirty = true }) else frame_in old q))
 
+-- The page is in no frame any more, and each other page as it was.
+abbrev pub LeavesFrame : (page : ℕ) → (old new : List (ℕ × Frame)) → Type 0
+LeavesFrame page old new = (q : ℕ) → frame_in new q ≡ (if page == q then None else frame_in old q)
+
+-- Each page in memory is so still, but this one where it was given up as a whole.
+abbrev pub KeepsPagesBut : (page from to : ℕ) → (old new : List (ℕ × Frame)) → Type 0
+KeepsPagesBut page from to old new = (q : ℕ) → (q ≡ page → (0 < from) ⊎ (to < 256)) → is_some (frame_in old q) ≡ true → is_some (frame_in new q) ≡ true
+
 -- The copies have these cells for this page; each other page keeps its own.
 abbrev pub HasCopied : (page : ℕ) → List Cell → (old new : List (ℕ × List Cell)) → Type 0
 HasCopied page cells old new = (q : ℕ) → copy_in new q ≡ (if page == q then Some cells else copy_in old q)
@@ -270,8 +278,8 @@ module _ {D : Type 0} (g : disk.Ghosts D) where
   AreStoredIfWhole p page cells = IsWhole g p → (i : ℕ) → i < 256 → get_or cells i New ≡ in_slot (bytes_of g p) (slot_in p.live page) i
 
   -- If the pool is whole, the cells that are read are those of the slot.
-  abbrev pub ReadsStored : {E : Type 0} → ShownPool D → (page : ℕ) → Result (List Cell) E → Type 0
-  ReadsStored p page result = IsWhole g p → IfOk result (AreStored p page)
+  abbrev pub ReadsStored : {T E : Type 0} → ShownPool D → (page : ℕ) → List Cell → Result T E → Type 0
+  ReadsStored p page cells result = IsWhole g p → OnOk result (AreStored p page cells)
 
   -- The bytes are those of the page's frozen cells.
   abbrev pub IsOfFrozen : ShownPool D → Encoded → Type 0

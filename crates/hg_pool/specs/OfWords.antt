@@ -8,6 +8,9 @@ use Rattle.hg_disk.proofs.Moments.{joined, at_end, started}
 use Rattle.hg_cells.specs.declared.cell.Cell.TheVariants.{New}
 use Rattle.hg_cells.specs.Cells.{IsWithin}
 use Rattle.hg_cells.specs.PagedLaws.{within_more}
+use Rattle.hg_cells.specs.Words.{AreBytes, ForOverlapped}
+use Rattle.hg_model.specs.History.{overlaps}
+use Rattle.hg_pages.specs.declared.decoded.TheConstants.{MOST_PAGES}
 use Rattle.hg_model.specs.declared.verdict.Refusal.{Refusal}
 use Rattle.hg_model.specs.declared.verdict.Refusal.TheVariants as refusal
 use Rattle.hg_pages.specs.Slots.{HasBytes, IsKnown}
@@ -36,6 +39,21 @@ IsKept p w = IsBrought p w × IsSettled p (w / 256)
 -- the words lie in one page, which is in memory and may be changed
 abbrev pub MayFill : {D : Type 0} → ShownPool D → ℕ → ℕ → Type 0
 MayFill p first count = IsKept p first × (first % 256 + count ≤ 256)
+
+-- so many bytes overlap each word of the page
+abbrev pub IsCovered : (at len page : ℕ) → Type 0
+IsCovered at len page = (v : ℕ) → v / 256 ≡ page → overlaps at len v ≡ true
+
+-- The two pages are overlapped, and each other overlapped page is covered.
+pub record AreInPart (at len : ℕ) (pages : ℕ × ℕ) : Type 0 where
+  pub low : (v : ℕ) × (overlaps at len v ≡ true) × (v / 256 ≡ pages.0)
+  pub high : (v : ℕ) × (overlaps at len v ≡ true) × (v / 256 ≡ pages.1)
+  pub others : ForOverlapped at len (λ w. (w / 256 ≡ pages.0) ⊎ ((w / 256 ≡ pages.1) ⊎ IsCovered at len (w / 256)))
+  pub numbers : (pages.0 < MOST_PAGES) × (pages.1 < MOST_PAGES)
+
+-- The page of each word that so many bytes overlap may be changed, and is in memory where the bytes do not cover it.
+abbrev pub MayClear : {D : Type 0} → ShownPool D → ℕ → ℕ → Type 0
+MayClear p at len = AreBytes at len × ForOverlapped at len (λ w. IsSettled p (w / 256) × (IsBrought p w ⊎ IsCovered at len (w / 256)))
 
 -- a full table of sets is no cause of a pool's refusals
 pub never_full : {D : Type 0} (p : ShownPool D) → IsTrueCause p refusal.FullSets → ⊥

@@ -99,9 +99,9 @@ impl<D: Disk> Parts<D> {
         self.frozen_table().names(slot)
     }
 
-    // Where the next search for a free slot begins: at the slot that was found, or at the page's former slot if this
-    // becomes free and is less.
-    fn next_search(&self, found: u32, former: Option<u32>) -> u32
+    /// Where the next search for a free slot begins: at the slot that was found, or at the page's former slot if this
+    /// becomes free and is less.
+    pub(crate) fn next_search(&self, found: u32, former: Option<u32>) -> u32
         ensures { MayBegin self.now.root.entries (frozen_of self.now).entries found former result }
     {
         match former {

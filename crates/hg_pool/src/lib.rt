@@ -3,6 +3,7 @@
 
 mod changed;
 mod checkpoint;
+mod clearing;
 mod copies;
 mod evicting;
 mod fault;

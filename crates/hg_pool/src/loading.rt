@@ -1,5 +1,5 @@
 //! Pages come into frames, and are changed there.
-ghost use Rattle.std.specs.Prelude.{◌≡◌, ◌≢◌, ◌⊎◌, ◌+◌, ◌/◌, ◌<◌, ◌≤◌, ◌^◌, ◌==◌, ℕ, ◌∷◌, length, get_or, true, Some, None, is_some, OnOk, IfOk, IfErr, IfSome, if◌then◌else◌};
+ghost use Rattle.std.specs.Prelude.{◌≡◌, ◌≢◌, ◌⊎◌, ◌+◌, ◌/◌, ◌<◌, ◌≤◌, ◌^◌, ◌==◌, ℕ, ◌∷◌, length, get_or, replicate, true, Some, None, is_some, OnOk, IfErr, IfSome, if◌then◌else◌};
 ghost use Rattle.hg_disk.specs.Calls.{CallsAtMost};
 ghost use Rattle.hg_cells.specs.declared.cell.Cell.TheVariants.{New};
 ghost use Rattle.hg_cells.specs.Cells.{IsWithin};
@@ -20,22 +20,29 @@ impl<D: Disk> Parts<D> {
     ghost use Rattle.hg_pool.specs.Reached.{IsReached};
     ghost use Rattle.hg_pool.specs.Sound.{IsSound, shown_of};
 
-    // The cells of a page that is not in memory: from its slot, or new ones.
-    fn read(&mut self, page: u64, segments: u32, sets: &SetTable) -> Result<Page, Refusal>
+    // Reads the cells of a page that is not in memory into a page of new words: those of its slot, if it has one.
+    fn read(
+        &mut self,
+        page: u64,
+        segments: u32,
+        sets: &SetTable,
+        cells: &mut Page,
+    ) -> Result<(), Refusal>
         requires sound { IsSound self.old }
+        requires new { cells.old ≡ replicate 256 New }
         ensures sound { IsSound self.new }
         ensures rest { self.new ≡ record self.old { file = self.new.file } }
         ensures stays { Stays ⟦<D as Disk>⟧ (shown_of self.old) (shown_of self.new) }
-        ensures cells { ReadsStored ⟦<D as Disk>⟧ (shown_of self.new) page result }
-        ensures named { IfOk result (λ cells. (i : ℕ) → IsWithin segments (length sets.now.sets) (get_or cells i New)) }
+        ensures cells { ReadsStored ⟦<D as Disk>⟧ (shown_of self.new) page cells.new result }
+        ensures named { OnOk result ((i : ℕ) → IsWithin segments (length sets.now.sets) (get_or cells.new i New)) }
         ensures whole { ReadsUndamaged ⟦<D as Disk>⟧ (shown_of self.old) page segments sets.now.sets result }
         ensures refusal { IfErr result (IsTrueCause (shown_of self.new)) }
         ensures device { CountsFailures ⟦<D as Disk>⟧ (shown_of self.old) (shown_of self.new) result }
         ensures calls { CallsAtMost ⟦<D as Disk>⟧ 1 (disk_of (shown_of self.old)) (disk_of (shown_of self.new)) }
     {
         match self.live.get(page) {
-            None => Ok(Page::new()),
-            Some(slot) => Ok(self.file.read_page(slot, page, segments, sets)?),
+            None => Ok(()),
+            Some(slot) => Ok(self.file.read_page(slot, page, segments, sets, cells)?),
         }
     }
 
@@ -58,7 +65,8 @@ impl<D: Disk> Parts<D> {
         ensures device { CountsFailures ⟦<D as Disk>⟧ (shown_of self.old) (shown_of self.new) result }
         ensures calls { CallsAtMost ⟦<D as Disk>⟧ 1 (disk_of (shown_of self.old)) (disk_of (shown_of self.new)) }
     {
-        let cells = self.read(page, segments, sets)?;
+        let mut cells = Page::new();
+        self.read(page, segments, sets, &mut cells)?;
         self.take_in(page, cells)
     }
 

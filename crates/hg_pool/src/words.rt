@@ -24,7 +24,7 @@ const WORDS: u64 = PAGE_WORDS as u64;
 
 /// The numbers of the first and of the last page that `len` bytes from `at` on overlap.
 #[inline]
-fn pages_of(at: u64, len: u16) -> (u64, u64)
+fn pages_of(at: u64, len: u32) -> (u64, u64)
     requires some { 0 < len }
     requires few { len ≤ GREATEST_BLOCK }
     requires within { at + len ≤ 2 ^ 64 }
@@ -35,8 +35,8 @@ fn pages_of(at: u64, len: u16) -> (u64, u64)
 }
 
 impl<D: Disk> Pool<D> {
-    // Brings two pages, which may be the same, into frames. The first stays in memory when the second is brought.
-    fn load_both(
+    /// Brings two pages, which may be the same, into frames. The first stays in memory when the second is brought.
+    pub(crate) fn load_both(
         &mut self,
         first: u64,
         last: u64,
@@ -181,9 +181,9 @@ impl<D: Disk> Pool<D> {
         frame.cells.same(from, to)
     }
 
-    // Gives all words of a page from `from` up to `to` a cell.
+    /// Gives all words of a page from `from` up to `to` a cell.
     #[inline]
-    fn fill_page(&mut self, number: u64, from: u64, to: u64, cell: Cell)
+    pub(crate) fn fill_page(&mut self, number: u64, from: u64, to: u64, cell: Cell)
         requires present { is_some (frame_in self.old.frames number) ≡ true }
         requires settled { IsSettled self.old number }
         requires in_order { from ≤ to }
@@ -214,6 +214,8 @@ impl<D: Disk> Words for Pool<D> {
 
     ghost may_fill = { of.MayFill };
 
+    ghost may_clear = { of.MayClear };
+
     ghost may_refuse = { IsTrueCause };
 
     ghost reads_true = { of.ReadsTrue ⟦<D as Disk>⟧ };
@@ -235,12 +237,12 @@ impl<D: Disk> Words for Pool<D> {
     ghost not_full = { of.never_full };
 
     fn bring(&mut self, at: u64, len: u16, segments: u32, sets: &SetTable) -> Result<(), Refusal> {
-        let (first, last) = pages_of(at, len);
+        let (first, last) = pages_of(at, u32::from(len));
         self.load_both(first, last, segments, sets)
     }
 
     fn keep(&mut self, at: u64, len: u16) -> Result<(), Refusal> {
-        let (first, last) = pages_of(at, len);
+        let (first, last) = pages_of(at, u32::from(len));
         self.keep_both(first, last)
     }
 
@@ -299,18 +301,26 @@ impl<D: Disk> Words for Pool<D> {
         }
     }
 
-    fn reset(&mut self, at: u64, len: u16) {
+    fn ready_to_clear(
+        &mut self,
+        at: u64,
+        len: u32,
+        segments: u32,
+        sets: &SetTable,
+    ) -> Result<(), Refusal> {
         let (first, last) = pages_of(at, len);
-        let from = at / 4;
+        self.load_in_part(at, len, segments, sets)?;
+        self.keep_all(first, last)
+    }
+
+    fn clear(&mut self, at: u64, len: u32) {
         let end = (at + u64::from(len - 1)) / 4 + 1;
-        self.fill_page(
-            first,
-            from % WORDS,
-            (end - first * WORDS).min(WORDS),
-            Cell::New,
-        );
-        if last != first {
-            self.fill_page(last, 0, end - last * WORDS, Cell::New);
+        let mut word = at / 4;
+        while word < end {
+            let from = word % WORDS;
+            let count = (end - word).min(WORDS - from);
+            self.clear_page(word / WORDS, from, from + count);
+            word += count;
         }
     }
 }

@@ -159,7 +159,7 @@ module _ (D A B : RattleType) (g : disk.Ghosts D.Denot) (o : opening.Ghosts A.De
         book.the_send B l',
         (
           search (sendable, crosses) depth 20,
-          (search (sendable, crosses) depth 20, (search (sendable, crosses, knot.crosses) depth 20, (search (sendable, crosses) depth 20, (register.the_send A r, tt)))),
+          (search (sendable, crosses) depth 20, (search (sendable, crosses, knot.crosses) depth 20, (register.the_send A r, tt))),
         ),
       ),
     ),

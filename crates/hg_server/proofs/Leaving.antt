@@ -1,40 +1,115 @@
 -- What a server leaves of its devices.
-use Rattle.std.proofs.Common.{◌≡◌, inl, inr, ◌<◌, ◌≤◌, ◌∙◌, ◌∷◌, [], ℕ, List, ap, map, Result, Ok, Err, IfErr, IsTrue, Bool, arith, refl, sym, subst}
+use Rattle.std.proofs.Common.{◌≡◌, inl, inr, ⊎_elim, ◌⊎◌, ◌+◌, ◌<◌, ◌∙◌, ◌∷◌, [], ℕ, List, ap, map, Result, Ok, Err, IfErr, IsTrue, Bool, true, false, cond, arith, refl, sym, subst}
 use Rattle.hg_model.specs.Contents.{Content}
 use Rattle.hg_model.specs.declared.verdict.Refusal.{Refusal}
+use Rattle.hg_model.specs.declared.verdict.Refusal.TheVariants as refusal
 use Rattle.hg_disk.specs.declared.disk.Disk as disk
+use Rattle.hg_detect.specs.Shown as detect
+use Rattle.hg_pool.specs.Maps as pools
+use Rattle.hg_pool.specs.Shown as pool
 use Rattle.hg_contents.specs.Images.{HasContent}
+use Rattle.hg_store.specs.Journal.{after_refusal}
 use Rattle.hg_store.specs.declared.devices.Devices.{Devices}
 use Rattle.hg_store.specs.Images.{EachImage, EachImageAlong, HasContentOfOne, IsOn, Recovers, failures_of, read_of}
 use Rattle.hg_store.specs.Shown.{ShownStore, live}
-use Rattle.hg_store.specs.Store.{IsFresh}
+use Rattle.hg_store.specs.Steps.{IsCommitted, IsNotCommitted}
+use Rattle.hg_store.specs.Store.{Backs, IsFresh, IsIdle}
+use Rattle.hg_streams.specs.Calls.{failed_writes}
+use Rattle.hg_streams.specs.Faults.{HasWriteCause}
+use Rattle.hg_streams.specs.Written.{Took, TookFront}
+use Rattle.hg_streams.proofs.Printed.{failed_on}
+use Rattle.hg_streams.specs.declared.call.WriteCall.{WriteCall}
 use Rattle.hg_desk.specs.Going.{LeadsTo, Point, WentOn, began, of_points, oldest, points_of}
 use Rattle.hg_desk.proofs.Going.{along_of_points, each_of_points, each_to_points, oldest_point}
 use Rattle.hg_store.specs.Limits.{greatest_with, limits_of}
-use Rattle.hg_server.specs.Serving.{HasServeCause, IsServingFault, IsToldTruly, Served, WasOpened}
+use Rattle.hg_server.specs.Acknowledged.{LeavesAcksDurable}
+use Rattle.hg_server.specs.Serving.{Served, StoppedEarly, WasOpened, refusal_of, serving_by}
+use Rattle.hg_server.specs.Settling.{IsCommitFault, IsServingFault, IsSettled, SettlesOrBreaks, StopsFor}
+use Rattle.hg_server.specs.declared.course.Course.{Course}
 use Rattle.hg_server.specs.declared.settings.Settings.{Settings}
 use Rattle.hg_server.specs.declared.fault.ServingFault.{ServingFault}
 use Rattle.hg_server.specs.declared.fault.ServingFault.TheVariants as fault
+use Rattle.hg_server.specs.declared.handing.Taken.{Taken}
 
 -- what holds of an Err, and what follows from it
 pub if_err_weaker : {T E : Type 0} (P Q : E → Type 0) (result : Result T E) → ((e : E) → P e → Q e) → IfErr result P → IfErr result Q
 if_err_weaker P Q (Ok value) more is = tt
 if_err_weaker P Q (Err e) more is = more e is
 
+-- how a commit is told, by whether the store was broken before it
+told_commit : (was_broken : Bool) (r : Refusal) (told : ServingFault) (n m : ℕ) → r ≡ cond was_broken refusal.Broken refusal.DeviceFault → m ≡ after_refusal r n → (r ≡ refusal.Broken → told ≡ fault.Broken)
+    → (r ≡ refusal.DeviceFault → told ≡ fault.DeviceFault) → ((told ≡ fault.Broken) × (was_broken ≡ true) × (m ≡ n)) ⊎ ((told ≡ fault.DeviceFault) × (n < m))
+told_commit true r told n m is count broken device = inl (broken is, refl, count ∙ ap (λ (x : Refusal). after_refusal x n) is)
+told_commit false r told n m is count broken device = let one : m ≡ n + 1 = count ∙ ap (λ (x : Refusal). after_refusal x n) is in inr (device is, omega (arith, one))
+
+-- what was written did not fail
+pub took_failed : (first now : List WriteCall) (text : List ℕ) → Took first now text → failed_writes now ≡ failed_writes first
+took_failed first now text t = ap failed_writes t.since ∙ omega (arith, failed_on t.later first, t.whole)
+
 module _ {D : Type 0} (g : disk.Ghosts D) where
-  -- a call that failed before settling, and what settling answers
-  pub told_truly : (old mid new : Devices D) (has_failed : Bool) (told : ServingFault) → (IsTrue has_failed → failures_of g old < failures_of g mid) → failures_of g mid ≤ failures_of g new
-      → (told ≡ fault.Broken → IsTrue has_failed) → IsToldTruly g old new told
-  told_truly old mid new has_failed told failed more is broken = let less = failed (is broken) in omega (arith, less, more)
+  -- a commit that was made settles a store
+  pub settled_by : (old new : ShownStore D) (count : ℕ) → IsCommitted g old new count → new.detector ≡ old.detector → (IsTrue g.is_honest → Backs g new) → IsSettled g new
+  settled_by old new count done same backs = record {
+    works = done.works;
+    pending = done.pending;
+    durable = λ honest. ap (λ (d : detect.ShownDetector (pool.ShownPool D)). detect.content (pools.live g) d) (done.committed ∙ sym same);
+    backs = backs;
+  }
 
-  -- why serving ended early, by the devices before the store was opened, of which no call failed meanwhile
-  serving_fault : (old start new : Devices D) (r : Refusal) → failures_of g start ≡ failures_of g old → IsServingFault g start new r → IsServingFault g old new r
-  serving_fault old start new r same (inl is) = let less = is.1 in inl (is.0, omega (arith, same, less))
-  serving_fault old start new r same (inr is) = inr is
+  -- one that was refused
+  pub commit_fault : (old new : ShownStore D) (r : Refusal) (told : ServingFault) → IsNotCommitted old new r → failures_of g new.devices ≡ after_refusal r (failures_of g old.devices)
+      → (r ≡ refusal.Broken → told ≡ fault.Broken) → (r ≡ refusal.DeviceFault → told ≡ fault.DeviceFault) → IsCommitFault g old new told
+  commit_fault old new r told done count broken device = (
+    done.broken,
+    told_commit old.is_broken r told (failures_of g old.devices) (failures_of g new.devices) done.answer count broken device,
+  )
 
-  pub serve_cause : (settings : Settings) (old : Devices D) (opened : List (ShownStore D)) (moments : List (Devices D)) (start new : Devices D) (r : Refusal) → failures_of g start ≡ failures_of g old
-      → WasOpened g settings.frames opened moments new → IsServingFault g start new r → HasServeCause g settings old opened moments new r
-  serve_cause settings old opened moments start new r same began is = inr (began, serving_fault old start new r same is)
+  -- why serving a store ended early, by what settling it answers
+  pub stops_for : (connections : ℕ) (old : Devices D) (mid new : ShownStore D) (moments before : List (Devices D)) (taken : Taken) (told : ServingFault) → moments ≡ mid.devices ∷ before
+      → (mid.is_broken ≡ true → failures_of g old < failures_of g mid.devices) → SettlesOrBreaks g mid new connections taken told → StopsFor g connections old moments new taken told
+  stops_for connections old mid new moments before taken told pushed failed is =
+      subst (λ (l : List (Devices D)). StopsFor g connections old l new taken told) (sym pushed) (by is) where
+        by : SettlesOrBreaks g mid new connections taken told → StopsFor g connections old (mid.devices ∷ before) new taken told
+        by (inl broke) = ⊎_elim
+            (λ a. inl (a.0, (broke.0, subst (λ (n : ℕ). failures_of g old < n) (sym a.2) (failed a.1), a.2)))
+            (λ a. inr (inl (a.0, (broke.0, a.1))))
+            broke.1
+        by (inr settled) = inr (inr settled)
+
+  -- the same as it is printed, where no write had failed
+  pub serving_fault : (connections : ℕ) (old : Devices D) (moments : List (Devices D)) (s : ShownStore D) (taken : Taken) (calls_old calls_new : List WriteCall) (told : ServingFault)
+      → failed_writes calls_new ≡ failed_writes calls_old → StopsFor g connections old moments s taken told → IsServingFault g connections old moments s taken calls_old calls_new (refusal_of told)
+  serving_fault connections old moments s taken calls_old calls_new told none (inl is) = inl (ap refusal_of is.0, is.1)
+  serving_fault connections old moments s taken calls_old calls_new told none (inr (inl is)) = inr (inl (ap refusal_of is.0, is.1))
+  serving_fault connections old moments s taken calls_old calls_new told none (inr (inr is)) =
+      inr (inr (is.0, ⊎_elim (λ a. inl (ap refusal_of a.0, a.1)) (λ a. inr (inl (ap refusal_of a, none))) is.1))
+
+  -- one of the output, or of want of memory, over a store that is settled
+  pub output_fault : (connections : ℕ) (old : Devices D) (moments : List (Devices D)) (s : ShownStore D) (taken : Taken) (calls_old calls_mid calls_new : List WriteCall) (r : Refusal)
+      → failed_writes calls_mid ≡ failed_writes calls_old → IsSettled g s → HasWriteCause calls_mid calls_new r → IsServingFault g connections old moments s taken calls_old calls_new r
+  output_fault connections old moments s taken calls_old calls_mid calls_new r none settled cause = inr (inr (
+    settled,
+    inr (
+        ⊎_elim
+        (λ memory. inl (memory.0, memory.1 ∙ none))
+        (λ device. inr (device.0, subst (λ (n : ℕ). n < failed_writes calls_new) none device.1))
+        cause),
+  ))
+
+  -- by the devices before the store was opened, of which no call failed meanwhile
+  since_opening : (connections : ℕ) (old start : Devices D) (moments : List (Devices D)) (s : ShownStore D) (taken : Taken) (calls_old calls_new : List WriteCall) (r : Refusal)
+      → failures_of g start ≡ failures_of g old → IsServingFault g connections start moments s taken calls_old calls_new r → IsServingFault g connections old moments s taken calls_old calls_new r
+  since_opening connections old start moments s taken calls_old calls_new r same (inl is) = inl (is.0, (is.1.0, subst (λ (n : ℕ). n < failures_of g s.devices) same is.1.1, is.1.2))
+  since_opening connections old start moments s taken calls_old calls_new r same (inr is) = inr is
+
+  -- a store as it is opened
+  pub opened_settled : (old : Devices D) (s : ShownStore D) → IsIdle s → (IsTrue g.is_honest → (c : Content) × HasContent (read_of g old) c × IsFresh g s c) → IsSettled g s
+  opened_settled old s idle fresh = record {
+    works = idle.works;
+    pending = idle.pending;
+    durable = λ honest. let has = fresh honest in has.2.durable ∙ sym has.2.has;
+    backs = λ honest. (fresh honest).2.backs;
+  }
 
   module _ (old : Devices D) (start now : ShownStore D) (moments : List (Devices D)) (went : WentOn g (began g start) moments now) where
     abbrev opened : Devices D
@@ -44,13 +119,13 @@ module _ {D : Type 0} (g : disk.Ghosts D) where
     is_opening = oldest_point g moments now.devices ∙ went.opening
 
     -- it was opened with these limits
-    pub was_opened : (frames : ℕ) (none all : List (ShownStore D)) (first : ShownStore D) → limits_of start ≡ greatest_with frames → none ≡ [] → all ≡ first ∷ none → first ≡ start
-        → WasOpened g frames all moments now.devices
-    was_opened frames none all first limits empty pushed is = record {
+    pub was_opened : (frames : ℕ) (course : Course D) (first : ShownStore D) → limits_of start ≡ greatest_with frames → course.opened ≡ first ∷ [] → first ≡ start → course.moments ≡ moments
+        → WasOpened g frames course now.devices
+    was_opened frames course first limits pushed is same = record {
       store = start;
-      once = pushed ∙ (ap (λ s. s ∷ none) is ∙ ap (λ t. start ∷ t) empty);
+      once = pushed ∙ ap (λ s. s ∷ []) is;
       limits = limits;
-      is_oldest = is_opening;
+      is_oldest = ap (λ (ms : List (Devices D)). points_of g (oldest now.devices ms)) same ∙ is_opening;
     }
 
     -- a store that was opened, and went on
@@ -76,3 +151,23 @@ module _ {D : Type 0} (g : disk.Ghosts D) where
           kept = along_of_points g opened moments now.devices (IsOn has.0 (live g now))
               (subst (λ (d : Devices Point). EachImageAlong (of_points g.is_honest) d (map (points_of g) moments) (points_of g now.devices) (IsOn has.0 (live g now))) (sym is_opening) images);
         }
+
+    -- it ended early
+    pub stopped_early : (settings : Settings) (course : Course D) (first : ShownStore D) (left : Devices D) (taken : Taken) (calls_old calls_new : List WriteCall) (r : Refusal) → limits_of start ≡ greatest_with settings.frames
+        → course.opened ≡ first ∷ [] → first ≡ start → course.moments ≡ moments → course.left ≡ now ∷ [] → course.taken ≡ taken → left ≡ now.devices → failures_of g start.devices ≡ failures_of g old
+        → (IsTrue g.is_honest → (c : Content) × HasContent (read_of g old) c × IsFresh g start c) → (IsTrue g.is_honest → Recovers g old start.devices)
+        → IsServingFault g settings.connections start.devices moments now taken calls_old calls_new r → TookFront calls_old calls_new (serving_by g settings now) → LeavesAcksDurable g course now
+        → StoppedEarly g settings old course left calls_old calls_new r
+    stopped_early settings course first left taken calls_old calls_new r limits pushed is same ended took devices none content looked cause wrote acked =
+        subst (λ (d : Devices D). StoppedEarly g settings old course d calls_old calls_new r) (sym devices) (record {
+          store = now;
+          left = ended;
+          devices = refl;
+          began = was_opened settings.frames course first limits pushed is same;
+          cause = subst (λ (ms : List (Devices D)). IsServingFault g settings.connections old ms now course.taken calls_old calls_new r) (sym same)
+              (subst (λ (t : Taken). IsServingFault g settings.connections old moments now t calls_old calls_new r) (sym took)
+              (since_opening settings.connections old start.devices moments now taken calls_old calls_new r none cause));
+          served = subst (λ (ms : List (Devices D)). IsTrue g.is_honest → Served g old ms now.devices (live g now)) (sym same) (served content looked);
+          wrote = wrote;
+          acked = acked;
+        })

@@ -1,3 +1,5 @@
+pub mod Acknowledged
+pub mod Acknowledging
 pub mod Crossing
 pub mod Leaving
 pub mod Talking

@@ -1,5 +1,5 @@
 -- What a server prints, what it leaves of its devices, and how it may fail.
-use Rattle.std.specs.Prelude.{◌≡◌, ◌⊎◌, ◌<◌, ◌++◌, ℕ, List, [], ◌∷◌, Result, Ok, Err, IfErr, IfOk, IsTrue, OnErr, OnOk, codes, false}
+use Rattle.std.specs.Prelude.{◌≡◌, ◌⊎◌, ◌++◌, ℕ, List, [], ◌∷◌, Result, Ok, Err, IfErr, IfOk, IsTrue, OnErr, OnOk, codes}
 use Rattle.hg_model.specs.Contents.{Content}
 use Rattle.hg_model.specs.declared.verdict.Refusal.{Refusal}
 use Rattle.hg_model.specs.declared.verdict.Refusal.TheVariants.{Broken, DeviceFault, OutOfMemory}
@@ -8,10 +8,9 @@ use Rattle.hg_streams.specs.Shown.{Outgoing}
 use Rattle.hg_streams.specs.declared.call.WriteCall.{WriteCall}
 use Rattle.hg_contents.specs.Images.{HasContent}
 use Rattle.hg_store.specs.declared.devices.Devices.{Devices}
-use Rattle.hg_store.specs.Images.{EachImageAlong, IsOn, KeepsFiles, Recovers, failures_of, read_of}
-use Rattle.hg_store.specs.Shown.{ShownStore, live, saved}
-use Rattle.hg_store.specs.Store.{Backs}
-use Rattle.hg_desk.specs.Going.{Began, LeadsTo, WentOn, oldest, points_of}
+use Rattle.hg_store.specs.Images.{EachImageAlong, IsOn, Recovers, read_of}
+use Rattle.hg_store.specs.Shown.{ShownStore, live}
+use Rattle.hg_desk.specs.Going.{LeadsTo, oldest, points_of}
 use Rattle.hg_streams.specs.Written.{Took, TookFront}
 use Rattle.hg_streams.specs.Texts.{line_text, number_text, counts_line}
 use Rattle.hg_streams.specs.Faults.{IsTold}
@@ -20,11 +19,14 @@ use Rattle.hg_store.specs.Limits.{greatest_with, limits_of}
 use Rattle.hg_store.specs.Refusals.{IsNotOpened}
 use Rattle.hg_server.specs.declared.fault.ServingFault.{ServingFault}
 use Rattle.hg_server.specs.declared.fault.ServingFault.TheVariants as fault
-use Rattle.hg_server.specs.declared.handing.Taken.{Taken}
+use Rattle.hg_server.specs.declared.course.Course.{Course}
 use Rattle.hg_server.specs.declared.serving.Outcome.{Outcome}
+use Rattle.hg_server.specs.declared.serving.Service.{Service}
 use Rattle.hg_server.specs.declared.settings.Place.{Place}
 use Rattle.hg_server.specs.declared.settings.Place.TheVariants as place
 use Rattle.hg_server.specs.declared.settings.Settings.{Settings}
+use Rattle.hg_server.specs.Acknowledged.{LeavesAcksDurable}
+use Rattle.hg_server.specs.Settling.{IsServingFault, IsSettled, StopsFor}
 
 -- how many connections were served, and the end line of a store with this content
 abbrev pub served_text : ℕ → Content → List ℕ
@@ -57,10 +59,9 @@ abbrev pub AddsFrontOnErr : {W T E : Type 0} → (old new : Outgoing W) → List
 AddsFrontOnErr old new text result =
     (first : List WriteCall) (before : List ℕ) → Took first old.calls before → OnErr result (TookFront first new.calls (before ++ text))
 
--- what recovering a store and serving it answers: the store, or why there is none, with the devices; the moments since its opening; the
--- store as it was opened, if it was; and how many connections workers took
+-- what recovering a store and serving it answers: the store, or why there is none, with the devices; and how it went
 abbrev pub Recovered : Type 0 → Type 0
-Recovered D = Result (ShownStore D) (Refusal × Devices D) × List (Devices D) × List (ShownStore D) × Taken
+Recovered D = Result (ShownStore D) (Refusal × Devices D) × Course D
 
 -- 0 with a store that works, 3 without
 abbrev pub IsStatusOf : {S E : Type 0} → Result S E → ℕ → Type 0
@@ -87,30 +88,20 @@ module _ {D : Type 0} (g : disk.Ghosts D) where
   abbrev pub PrintsFrontOnErr : {W T E : Type 0} → Settings → ShownStore D → (old new : Outgoing W) → Result T E → Type 0
   PrintsFrontOnErr settings s old new ended = OnErr ended (TookFront old.calls new.calls (serving_by settings s))
 
-  -- If the store `s` went on from its opening, so did the store `t` after it.
-  abbrev pub StillWentOn : List (Devices D) → ShownStore D → List (Devices D) → ShownStore D → Type 0
-  StillWentOn moments s later t = (start : Began) → WentOn g start moments s → WentOn g start later t
+  -- Why serving a store that had these devices ended early.
+  abbrev pub EndsFor : {E : Type 0} → Settings → Devices D → Service D E → ServingFault → Type 0
+  EndsFor settings devices service told = StopsFor g settings.connections devices service.moments service.store service.taken told
 
-  -- `Broken` is told only where a device failed meanwhile.
-  abbrev pub IsToldTruly : (old new : Devices D) → ServingFault → Type 0
-  IsToldTruly old new told = told ≡ fault.Broken → failures_of g old < failures_of g new
-
-  -- Why serving a store ends early: a device failed for a client, which broke the store; a device or the output failed; or memory was
-  -- refused.
-  abbrev pub IsServingFault : (old new : Devices D) → Refusal → Type 0
-  IsServingFault old new r = ((r ≡ Broken) × (failures_of g old < failures_of g new)) ⊎ ((r ≡ DeviceFault) ⊎ (r ≡ OutOfMemory))
+  -- The same with what was printed.
+  abbrev pub EndsByFault : {W E : Type 0} → Settings → Devices D → (old new : Outgoing W) → Service D E → Refusal → Type 0
+  EndsByFault settings devices old new service r = IsServingFault g settings.connections devices service.moments service.store service.taken old.calls new.calls r
 
   -- A store was opened, once, with so many frames and the greatest caps. The devices of the oldest moment are as they were then.
-  pub record WasOpened (frames : ℕ) (opened : List (ShownStore D)) (moments : List (Devices D)) (new : Devices D) : Type 0 where
+  pub record WasOpened (frames : ℕ) (course : Course D) (new : Devices D) : Type 0 where
     pub store : ShownStore D
-    pub once : opened ≡ store ∷ []
+    pub once : course.opened ≡ store ∷ []
     pub limits : limits_of store ≡ greatest_with frames
-    pub is_oldest : points_of g (oldest new moments) ≡ points_of g store.devices
-
-  -- Each accepted event is durable, and each image has the content with all of them.
-  pub record IsSettled (s : ShownStore D) : Type 0 where
-    pub backs : Backs g s
-    pub durable : saved g s ≡ live g s
+    pub is_oldest : points_of g (oldest new course.moments) ≡ points_of g store.devices
 
   -- What a server leaves that went through these moments, the newest first, and whose store ends with the content `last`. The store was
   -- opened with the content that the devices had; looking for it left each image the content of an image before. The events of clients lead
@@ -125,54 +116,61 @@ module _ {D : Type 0} (g : disk.Ghosts D) where
     pub kept : EachImageAlong g opened moments new (IsOn first last)
 
   -- A server that came to its end: workers took as many connections as they should, all was printed, and each accepted event is durable.
-  pub record EndsWell (settings : Settings) (old : Devices D) (opened : List (ShownStore D)) (moments : List (Devices D)) (taken : ℕ) (store : ShownStore D) (calls_old calls_new : List WriteCall) : Type 0 where
-    pub all_taken : taken ≡ settings.connections
-    pub printed : Took calls_old calls_new (serving_text settings (live g store))
-    pub began : WasOpened settings.frames opened moments store.devices
-    pub served : IsTrue g.is_honest → Served old moments store.devices (live g store)
-    pub settled : IsTrue g.is_honest → IsSettled store
-    pub works : store.is_broken ≡ false
+  pub record EndsWell (settings : Settings) (old : Devices D) (course : Course D) (store : ShownStore D) (calls_old calls_new : List WriteCall) : Type 0 where
+    pub all_taken : course.taken.count ≡ settings.connections
+    pub printed : Took calls_old calls_new (serving_by settings store)
+    pub began : WasOpened settings.frames course store.devices
+    pub served : IsTrue g.is_honest → Served old course.moments store.devices (live g store)
+    pub settled : IsSettled g store
+    pub acked : LeavesAcksDurable g course store
 
-  -- Why a server ends early: no store was opened; or one was, and it ended as `IsServingFault` says.
-  abbrev pub HasServeCause : Settings → Devices D → List (ShownStore D) → List (Devices D) → Devices D → Refusal → Type 0
-  HasServeCause settings old opened moments new r =
-      (IsNotOpened g old new r × (opened ≡ [])) ⊎ (WasOpened settings.frames opened moments new × IsServingFault old new r)
+  -- No store was opened: this is why. Nothing was written, and the devices were only looked at.
+  pub record NoneOpened (old : Devices D) (course : Course D) (new : Devices D) (calls_old calls_new : List WriteCall) (r : Refusal) : Type 0 where
+    pub cause : IsNotOpened g old new r
+    pub none : course.opened ≡ []
+    pub quiet : calls_new ≡ calls_old
+    pub looked : IsTrue g.is_honest → Recovers g old new
 
-  -- Nothing was written, and the devices were only looked at, which keeps the journal and the roots; or a front of what is due
-  -- for the last content was written.
-  abbrev pub WroteServing : Settings → Devices D → List (Devices D) → Devices D → List WriteCall → List WriteCall → Type 0
-  WroteServing settings old moments new calls_old calls_new =
-      ((calls_new ≡ calls_old) × KeepsFiles g old new × (IsTrue g.is_honest → Recovers g old new))
-      ⊎ ((last : Content) × ((IsTrue g.is_honest → Served old moments new last) × TookFront calls_old calls_new (serving_text settings last)))
+  -- A store was opened, and its server ended early for this cause. A front of what is due for the store that was left was written.
+  pub record StoppedEarly (settings : Settings) (old : Devices D) (course : Course D) (new : Devices D) (calls_old calls_new : List WriteCall) (r : Refusal) : Type 0 where
+    pub store : ShownStore D
+    pub left : course.left ≡ store ∷ []
+    pub devices : new ≡ store.devices
+    pub began : WasOpened settings.frames course new
+    pub cause : IsServingFault g settings.connections old course.moments store course.taken calls_old calls_new r
+    pub served : IsTrue g.is_honest → Served old course.moments new (live g store)
+    pub wrote : TookFront calls_old calls_new (serving_by settings store)
+    pub acked : LeavesAcksDurable g course store
 
-  -- A server ended early. There was a cause; it was told, or telling it failed; and what stands and was written is as far as it came.
-  abbrev pub EndsEarly : Settings → Devices D → List (ShownStore D) → List (Devices D) → Devices D → List WriteCall → List WriteCall → List WriteCall → List WriteCall → Type 0
-  EndsEarly settings old opened moments new calls_old calls_new faults_old faults_new =
-      (r : Refusal) × (HasServeCause settings old opened moments new r × (IsTold faults_old faults_new r × WroteServing settings old moments new calls_old calls_new))
+  -- Why a server ends early, and what stands and was written then.
+  abbrev pub EndsEarlyFor : Settings → Devices D → Course D → Devices D → (calls_old calls_new : List WriteCall) → Refusal → Type 0
+  EndsEarlyFor settings old course new calls_old calls_new r =
+      NoneOpened old course new calls_old calls_new r ⊎ StoppedEarly settings old course new calls_old calls_new r
+
+  -- A server ended early. There was a cause, and it was told, or telling it failed.
+  abbrev pub EndsEarly : Settings → Devices D → Course D → Devices D → (calls_old calls_new faults_old faults_new : List WriteCall) → Type 0
+  EndsEarly settings old course new calls_old calls_new faults_old faults_new =
+      (r : Refusal) × (EndsEarlyFor settings old course new calls_old calls_new r × IsTold faults_old faults_new r)
 
   -- With a store the server came to its end.
-  abbrev pub EndsWellOnOk : {W E : Type 0} → Settings → Devices D → List (ShownStore D) → List (Devices D) → ℕ → (old new : Outgoing W) → Result (ShownStore D) E → Type 0
-  EndsWellOnOk settings devices opened moments taken old new ended = IfOk ended (λ s. EndsWell settings devices opened moments taken s old.calls new.calls)
+  abbrev pub EndsWellOnOk : {W E : Type 0} → Settings → Devices D → Course D → (old new : Outgoing W) → Result (ShownStore D) E → Type 0
+  EndsWellOnOk settings devices course old new ended = IfOk ended (λ s. EndsWell settings devices course s old.calls new.calls)
 
   -- With a store that was recovered and served the server came to its end.
   abbrev pub EndsWellWhere : {W : Type 0} → Settings → Devices D → (old new : Outgoing W) → Recovered D → Type 0
-  EndsWellWhere settings devices old new result = EndsWellOnOk settings devices result.2 result.1 result.3.count old new result.0
+  EndsWellWhere settings devices old new result = EndsWellOnOk settings devices result.1 old new result.0
 
-  -- Without one, why it ended early.
-  abbrev pub EndsEarlyFor : Settings → Devices D → Recovered D → Type 0
-  EndsEarlyFor settings devices result = IfErr result.0 (λ e. HasServeCause settings devices result.2 result.1 e.1 e.0)
-
-  -- Without one, what was written.
-  abbrev pub WroteServingOnErr : {W S : Type 0} → Settings → Devices D → List (Devices D) → (old new : Outgoing W) → Result S (Refusal × Devices D) → Type 0
-  WroteServingOnErr settings devices moments old new ended = IfErr ended (λ e. WroteServing settings devices moments e.1 old.calls new.calls)
+  -- Without one it ended early.
+  abbrev pub EndsEarlyWhere : {W : Type 0} → Settings → Devices D → (old new : Outgoing W) → Recovered D → Type 0
+  EndsEarlyWhere settings devices old new result = IfErr result.0 (λ e. EndsEarlyFor settings devices result.1 e.1 old.calls new.calls e.0)
 
 -- For the command, which prints to one output and tells its faults on another.
 module _ {D W V : Type 0} (g : disk.Ghosts D) where
   -- With a store the server came to its end.
   abbrev pub ServesWell : Settings → Devices D → (before after : Outputs W V) → Outcome D → Type 0
-  ServesWell settings devices before after outcome = EndsWellOnOk g settings devices outcome.opened outcome.moments outcome.taken.count before.output after.output outcome.ended
+  ServesWell settings devices before after outcome = EndsWellOnOk g settings devices outcome.course before.output after.output outcome.ended
 
   -- Without one it ended early.
   abbrev pub StopsEarly : Settings → Devices D → (before after : Outputs W V) → Outcome D → Type 0
   StopsEarly settings devices before after outcome =
-      IfErr outcome.ended (λ left. EndsEarly g settings devices outcome.opened outcome.moments left before.output.calls after.output.calls before.faults.calls after.faults.calls)
+      IfErr outcome.ended (λ left. EndsEarly g settings devices outcome.course left before.output.calls after.output.calls before.faults.calls after.faults.calls)

@@ -54,7 +54,7 @@ fn listen<G: Gate, R: Clock + Wait>(
 }
 
 /// Takes connections from the listener, and hands each to a worker once one is free for it, until workers took so many. One that fails before
-/// a worker has it counts for none. It ends before where the store is broken, or the gate says stop.
+/// a worker has it counts for none. It is cut short where the store is broken, the gate says stop, or no worker is left.
 pub(crate) fn accept_all<G: Gate, R: Clock + Wait>(
     rt: &R,
     listener: &Listener,
@@ -62,15 +62,17 @@ pub(crate) fn accept_all<G: Gate, R: Clock + Wait>(
     health: &Health,
     gate: &G,
     to: Sender<Connection>,
-) -> Taken {
+) -> Taken
+    ensures all { result.is_cut_short ≡ false → result.count ≡ connections }
+{
     let mut taken = Taken::none();
     let _ = listener.answer_at_once();
     while taken.count() < connections {
         let Some(connection) = listen(rt, listener, health, gate) else {
-            break;
+            return taken.cut_short();
         };
         if !taken.hand(rt, connection, health, &to) {
-            break;
+            return taken.cut_short();
         }
     }
     taken

@@ -8,9 +8,9 @@ use std::alloc::AllocError;
 /// Why a store was not served to its end with all events durable.
 #[derive(Clone, Copy, Drop)]
 pub(crate) enum ServingFault {
-    /// A device failed for a client, who was told.
+    /// A device had failed before the last commit, and the store is broken.
     Broken,
-    /// A device failed.
+    /// The last commit failed, or no more connections came, though workers took too few.
     DeviceFault,
     /// Memory was refused.
     OutOfMemory,

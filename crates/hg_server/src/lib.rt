@@ -2,18 +2,19 @@
 #![tactic(auto)]
 
 mod accepting;
+pub mod course;
 mod ending;
 mod fault;
 pub mod flusher;
 pub mod handing;
 pub mod health;
 pub mod listening;
-pub mod opened;
 mod patience;
 pub mod piece;
+pub mod seen;
 pub mod serving;
 pub mod settings;
 mod settling;
 mod starting;
-mod wire;
+pub mod wire;
 pub mod worker;

@@ -1,27 +1,32 @@
 //! The server: a listener, and workers in threads of their own.
 
-ghost use Rattle.std.specs.Prelude.{◌≡◌, ◌+◌, Some, IfErr, IsTrue, OnOk, false};
-ghost use Rattle.hg_store.specs.Shown.{live};
-ghost use Rattle.hg_streams.specs.Faults.{IsStreamFault};
+ghost use Rattle.std.specs.Prelude.{◌≡◌, ◌+◌, ◌∷◌, map, reverse, Some, IfErr, IfOk, IsTrue, OnOk, false};
+ghost use Rattle.std.specs.Thread.{IsSend, IsSync};
+ghost use Rattle.hg_store.specs.Shown.{live, saved};
+ghost use Rattle.hg_streams.specs.Faults.{HasWriteCause};
 ghost use Rattle.hg_streams.specs.Printed.{IsPrintedNow};
 ghost use Rattle.hg_streams.specs.Written.{Took};
 ghost use Rattle.hg_store.specs.Limits.{IsFrameCount};
 ghost use Rattle.hg_desk.specs.Blanks.{IsBlankOf};
-ghost use Rattle.hg_desk.specs.Going.{FailedSince, WentOn, WentOnSince, began};
-ghost use Rattle.hg_server.specs.Serving.{AddsFrontOnErr, AddsOnOk, EndsEarlyFor, EndsWellWhere, IsServingFault, IsSettled, IsStatusOf, IsToldTruly, PrintsAllOnOk, PrintsFrontOnErr, ready_text, ServesWell, StopsEarly, WroteServingOnErr, served_by};
+ghost use Rattle.hg_desk.specs.Going.{WentOn, WentOnSince, began};
+ghost use Rattle.hg_server.specs.Acknowledged.{AcksAreDurable, BackAreTold, EachToldItsAcks, TalksAreDurable, ToldItsAcks, share_of, talks_of};
+ghost use Rattle.hg_server.specs.Serving.{AddsFrontOnErr, AddsOnOk, EndsByFault, EndsEarlyWhere, EndsFor, EndsWellWhere, IsStatusOf, PrintsAllOnOk, PrintsFrontOnErr, ready_text, ServesWell, StopsEarly, served_by};
+ghost use Rattle.hg_server.specs.Settling.{IsSettled};
 
 use crate::accepting::accept_all;
+use crate::course::Course;
 use crate::ending::hold_end_line;
 use crate::fault::ServingFault;
 use crate::flusher::{Due, flusher};
 use crate::handing::Taken;
 use crate::health::Terms;
 use crate::listening::Listener;
-use crate::opened::Opened;
 use crate::piece::{Piece, Station, pieces_for, stations};
+use crate::seen::Seen;
 use crate::settings::{Place, Settings};
 use crate::settling::settle;
 use crate::starting::can_start;
+use crate::wire::Transcript;
 use crate::worker::{Gate, Seat, worker};
 use crossbeam_channel::Sender;
 use hg_desk::moment::Moment;
@@ -56,8 +61,8 @@ pub struct Door<'a, G> {
     pub gate: &'a G,
 }
 
-/// Runs the workers until the connections are served or the store is broken, and gives their shares back, and how many connections they took.
-/// Their nudges end with them.
+/// Runs the workers until the connections are served or the store is broken, and gives their shares back with the conversations that they held, and
+/// how many connections they took. Their nudges end with them.
 fn run_workers<
     D: Disk + Send + Drop,
     A: Opening + Send + Sync,
@@ -73,7 +78,12 @@ fn run_workers<
     nudges: Sender<()>,
     door: &Door<G>,
     terms: &Terms,
-) -> (Result<Vec<Share<A, B>>, AllocError>, Taken) {
+) -> (
+    Result<Vec<(Share<A, B>, Trail<Transcript>)>, AllocError>,
+    Taken,
+)
+    ensures told { EachToldItsAcks ⟦<D as Disk>⟧ A.start result.0 }
+{
     let Ok(stations) = stations(alloc, shares, pieces) else {
         return (Err(AllocError), Taken::none());
     };
@@ -87,13 +97,18 @@ fn run_workers<
     let listener = door.listener;
     thread::join(
         rt,
-        move || {
+        move || -> Result<Vec<(Share<A, B>, Trail<Transcript>)>, AllocError>
+            requires { IsSend D.row × IsSync R.row × IsSync G.row }
+            ensures { EachToldItsAcks D.Disk A.start result }
+        {
             // It ends with the last worker: then no connection is taken any more.
             let queue = &from;
             thread::map_vec(
                 rt,
                 stations,
-                &|station| {
+                &|station: Station<A, B>| -> (Share<A, B>, Trail<Transcript>)
+                    ensures { ToldItsAcks D.Disk A.start result }
+                {
                     let Station { share, piece } = station;
                     worker(
                         Seat {
@@ -115,8 +130,8 @@ fn run_workers<
     )
 }
 
-/// Runs the flusher and the workers until the connections are served, and gives the shares of all back, the flusher's last, and how many
-/// connections the workers took. It ends behind the workers, with its checkpoint in progress.
+/// Runs the flusher and the workers until the connections are served, and gives the shares of all back, the flusher's first, with the conversations
+/// of each worker, and how many connections the workers took. It ends behind the workers, with its checkpoint in progress.
 fn run_all<
     D: Disk + Send + Drop,
     A: Opening + Send + Sync,
@@ -131,7 +146,12 @@ fn run_all<
     pieces: Vec<Piece>,
     begun: u64,
     door: &Door<G>,
-) -> (Result<Vec<Share<A, B>>, AllocError>, Taken) {
+) -> (
+    Result<(Vec<Share<A, B>>, Trail<Trail<Transcript>>), AllocError>,
+    Taken,
+)
+    ensures told { BackAreTold ⟦<D as Disk>⟧ A.start result.0 }
+{
     let mut shares = shares;
     let Some(share) = shares.pop() else {
         return (Err(AllocError), Taken::none());
@@ -146,7 +166,7 @@ fn run_all<
         every: u64::from(door.settings.every),
         begun,
     };
-    let (share, (shares, taken)) = thread::join(
+    let (share, (worked, taken)) = thread::join(
         rt,
         move || {
             flusher(
@@ -164,33 +184,47 @@ fn run_all<
         },
         move || run_workers(rt, alloc, shared, shares, pieces, to, door, terms),
     );
-    (with_one_more(shares, share), taken)
+    let Ok(worked) = worked else {
+        return (Err(AllocError), taken);
+    };
+    (part(alloc, worked, share), taken)
 }
 
-/// The shares of all threads, that of the flusher last.
-fn with_one_more<A: Opening, B: Column>(
-    shares: Result<Vec<Share<A, B>>, AllocError>,
-    share: Share<A, B>,
-) -> Result<Vec<Share<A, B>>, AllocError> {
-    let mut shares = shares?;
-    shares.push(share)?;
-    Ok(shares)
-}
-
-/// Takes the threads' shares in, and the store with them.
-fn take_in<D: Disk, A: Opening, B: Column>(
-    back: Result<Vec<Share<A, B>>, AllocError>,
-    shared: Shared<D, A, B>,
-) -> (TakenIn<D>, Result<(), AllocError>)
-    ensures since { WentOnSince ⟦<D as Disk>⟧ A.start result.0.moments result.0.store }
-    ensures failed { IsTrue result.0.has_failed → FailedSince ⟦<D as Disk>⟧ A.start result.0.store }
+/// The shares of all threads, that of the flusher first, and the conversations of each worker.
+fn part<A: Opening, B: Column>(
+    alloc: Global,
+    worked: Vec<(Share<A, B>, Trail<Transcript>)>,
+    first: Share<A, B>,
+) -> Result<(Vec<Share<A, B>>, Trail<Trail<Transcript>>), AllocError>
+    ensures shares { IfOk result (λ r. r.0.items ≡ first ∷ reverse (map share_of worked.items)) }
+    ensures talks { IfOk result (λ r. r.1 ≡ map talks_of worked.items) }
 {
-    let Ok(shares) = back else {
-        return (shared.into_store(), Err(AllocError));
+    let mut rest = worked;
+    let mut shares = Vec::new(alloc);
+    let mut talks = Trail::new();
+    shares.push(first)?;
+    while let Some((share, held)) = rest.pop() {
+        shares.push(share)?;
+        talks.push(held);
+    }
+    Ok((shares, talks))
+}
+
+/// Takes the threads' shares in, and the store with them. Gives the workers' conversations, where their shares were taken in.
+fn take_in<D: Disk, A: Opening, B: Column>(
+    back: Result<(Vec<Share<A, B>>, Trail<Trail<Transcript>>), AllocError>,
+    shared: Shared<D, A, B>,
+) -> (TakenIn<D>, Trail<Trail<Transcript>>, Result<(), AllocError>)
+    requires told { BackAreTold ⟦<D as Disk>⟧ A.start back }
+    ensures since { WentOnSince ⟦<D as Disk>⟧ A.start result.0.moments result.0.store }
+    ensures durable { IsTrue D.is_honest → TalksAreDurable ⟦<D as Disk>⟧ A.start (saved ⟦<D as Disk>⟧ result.0.store) result.1 }
+{
+    let Ok((shares, talks)) = back else {
+        return (shared.into_store(), Trail::new(), Err(AllocError));
     };
     match gather(shares, shared) {
-        Ok(taken_in) => (taken_in, Ok(())),
-        Err((_, shared, _)) => (shared.into_store(), Err(AllocError)),
+        Ok(taken_in) => (taken_in, talks, Ok(())),
+        Err((_, shared, _)) => (shared.into_store(), Trail::new(), Err(AllocError)),
     }
 }
 
@@ -200,14 +234,17 @@ struct Service<D: Disk, E> {
     store: Store<D>,
     /// The moments since the opening, the newest first, which contracts alone see.
     moments: Trail<Moment<D>>,
+    /// The conversations of each worker whose share was taken in, which contracts alone see.
+    talks: Trail<Trail<Transcript>>,
     /// How many connections workers took.
     taken: Taken,
     ended: Result<(), E>,
 }
 
 /// Opens the lock over a store, runs flusher and workers until the connections are served, and takes them in. At `Ok` workers took as many
-/// connections as they should, and all accepted events are durable. `DeviceFault` says that a device or the listener failed, `Broken` that a
-/// device failed for a client before, and `OutOfMemory` that memory was refused.
+/// connections as they should, and all accepted events are durable. `Broken` says that a device had failed before the last commit, and broke the
+/// store. `DeviceFault` says that this commit failed; or that all accepted events are durable, and no more connections came. `OutOfMemory` says
+/// that memory was refused; all accepted events are durable then.
 ///
 /// It waits until so many connections were served.
 fn serve_by<
@@ -231,15 +268,15 @@ fn serve_by<
     requires acks { acks ≡ A.table }
     requires opening { ((live ⟦<D as Disk>⟧ store).events ≡ A.opening) × (store.durable ≡ B.opening) }
     requires start { A.start ≡ Some (began ⟦<D as Disk>⟧ store) }
+    requires settled { IsSettled ⟦<D as Disk>⟧ store }
     ensures went { WentOn ⟦<D as Disk>⟧ (began ⟦<D as Disk>⟧ store) result.moments result.store }
-    ensures works { OnOk result.ended (result.store.is_broken ≡ false) }
-    ensures settled { OnOk result.ended (IsTrue D.is_honest → IsSettled ⟦<D as Disk>⟧ result.store) }
+    ensures settled { OnOk result.ended (IsSettled ⟦<D as Disk>⟧ result.store) }
     ensures taken { OnOk result.ended (result.taken.count ≡ door.now.settings.connections) }
-    ensures cause { IfErr result.ended (IsToldTruly ⟦<D as Disk>⟧ store.devices result.store.devices) }
+    ensures acked { AcksAreDurable ⟦<D as Disk>⟧ store result.store result.talks }
+    ensures cause { IfErr result.ended (EndsFor ⟦<D as Disk>⟧ door.now.settings store.devices result) }
 {
     let count = usize::from(door.settings.workers) + 1;
     let begun = store.durable().unwrap_or(0);
-    store.stands();
     let opened = Shared::<D, A, B>::new(alloc, store, accepted, durable, acks, count);
     let (shared, shares) = match opened {
         Ok(opened) => opened,
@@ -247,22 +284,21 @@ fn serve_by<
             return Service {
                 store,
                 moments: Trail::new(),
+                talks: Trail::new(),
                 taken: Taken::none(),
                 ended: Err(ServingFault::OutOfMemory),
             };
         }
     };
     let (back, taken) = run_all(rt, alloc, &shared, shares, pieces, begun, door);
-    let (back, taken_in) = take_in(back, shared);
+    let (back, talks, taken_in) = take_in(back, shared);
     let TakenIn {
         mut store,
         mut moments,
-        has_failed,
     } = back;
     let ended = settle(
         &mut store,
         &mut moments,
-        has_failed,
         taken_in,
         &taken,
         door.settings.connections,
@@ -270,6 +306,7 @@ fn serve_by<
     Service {
         store,
         moments,
+        talks,
         taken,
         ended,
     }
@@ -285,7 +322,7 @@ fn print_end<D: Disk, W: Write>(
     requires works { store.now.is_broken ≡ false }
     ensures printed { AddsOnOk output.old output.new (served_by ⟦<D as Disk>⟧ settings store.now) result }
     ensures front { AddsFrontOnErr output.old output.new (served_by ⟦<D as Disk>⟧ settings store.now) result }
-    ensures cause { IfErr result IsStreamFault }
+    ensures cause { IfErr result (HasWriteCause output.old.calls output.new.calls) }
 {
     print_number(b"served ", u64::from(settings.connections), output)?;
     let mut held = Vec::new(alloc);
@@ -298,7 +335,7 @@ fn print_end<D: Disk, W: Write>(
 fn print_ready<W: Write>(settings: Settings, output: &mut Output<W>) -> Result<(), Refusal>
     ensures printed { OnOk result (Took output.old.calls output.new.calls (ready_text settings)) }
     ensures calls { IsPrintedNow output.old.calls output.new.calls (ready_text settings) }
-    ensures cause { IfErr result IsStreamFault }
+    ensures cause { IfErr result (HasWriteCause output.old.calls output.new.calls) }
 {
     match settings.place {
         Place::Port { port } => print_number(b"ready ", u64::from(port), output),
@@ -319,7 +356,7 @@ fn announce<G, R: Threads + Clock + Sync, W: Write>(
 ) -> Result<(Vec<Piece>, BlankRegister), Refusal>
     ensures printed { OnOk result (Took output.old.calls output.new.calls (ready_text door.now.settings)) }
     ensures calls { IsPrintedNow output.old.calls output.new.calls (ready_text door.now.settings) }
-    ensures cause { IfErr result IsStreamFault }
+    ensures cause { IfErr result (HasWriteCause output.old.calls output.new.calls) }
 {
     let (Ok(pieces), Ok(acks)) = (
         pieces_for(alloc, door.settings.workers),
@@ -351,21 +388,22 @@ fn serve_and_print<
     door: &Door<G>,
     output: &mut Output<W>,
 ) -> Service<D, Refusal>
+    requires settled { IsSettled ⟦<D as Disk>⟧ store }
     ensures went { WentOn ⟦<D as Disk>⟧ (began ⟦<D as Disk>⟧ store) result.moments result.store }
-    ensures works { OnOk result.ended (result.store.is_broken ≡ false) }
-    ensures settled { OnOk result.ended (IsTrue D.is_honest → IsSettled ⟦<D as Disk>⟧ result.store) }
+    ensures settled { OnOk result.ended (IsSettled ⟦<D as Disk>⟧ result.store) }
     ensures printed { PrintsAllOnOk ⟦<D as Disk>⟧ door.now.settings result.store output.old output.new result.ended }
     ensures front { PrintsFrontOnErr ⟦<D as Disk>⟧ door.now.settings result.store output.old output.new result.ended }
     ensures taken { OnOk result.ended (result.taken.count ≡ door.now.settings.connections) }
-    ensures cause { IfErr result.ended (IsServingFault ⟦<D as Disk>⟧ store.devices result.store.devices) }
+    ensures acked { AcksAreDurable ⟦<D as Disk>⟧ store result.store result.talks }
+    ensures cause { IfErr result.ended (EndsByFault ⟦<D as Disk>⟧ door.now.settings store.devices output.old output.new result) }
 {
-    store.stands();
     let (pieces, acks) = match announce(rt, alloc, door, output) {
         Ok(made) => made,
         Err(refusal) => {
             return Service {
                 store,
                 moments: Trail::new(),
+                talks: Trail::new(),
                 taken: Taken::none(),
                 ended: Err(refusal),
             };
@@ -375,6 +413,7 @@ fn serve_and_print<
     let Service {
         store,
         moments,
+        talks,
         taken,
         ended,
     } = serve_by::<D, Brand, Brand, G, R>(
@@ -387,25 +426,28 @@ fn serve_and_print<
         pieces,
         door,
     );
-    if let Err(fault) = ended {
-        return Service {
+    match ended {
+        Ok(()) => {
+            let ended = print_end(alloc, &store, door.settings, output);
+            Service {
+                store,
+                moments,
+                talks,
+                taken,
+                ended,
+            }
+        }
+        Err(fault) => Service {
             store,
             moments,
+            talks,
             taken,
             ended: Err(Refusal::from(fault)),
-        };
-    }
-    let ended = print_end(alloc, &store, door.settings, output);
-    Service {
-        store,
-        moments,
-        taken,
-        ended,
+        },
     }
 }
 
-/// Recovers the store, serves the connections, and prints what is due. Gives the moments since the opening and the store as it was then
-/// too, which contracts alone see.
+/// Recovers the store, serves the connections, and prints what is due.
 fn recover_and_serve<
     D: Disk + Send + Drop,
     G: Gate + Sync,
@@ -417,32 +459,27 @@ fn recover_and_serve<
     devices: Devices<D>,
     door: &Door<G>,
     output: &mut Output<W>,
-) -> (
-    Result<Store<D>, (Refusal, Devices<D>)>,
-    Trail<Moment<D>>,
-    Trail<Opened<D>>,
-    Taken,
-)
+) -> (Result<Store<D>, (Refusal, Devices<D>)>, Course<D>)
     requires frames { IsFrameCount door.now.settings.frames }
     ensures well { EndsWellWhere ⟦<D as Disk>⟧ door.now.settings devices output.old output.new result }
-    ensures cause { EndsEarlyFor ⟦<D as Disk>⟧ door.now.settings devices result }
-    ensures wrote { WroteServingOnErr ⟦<D as Disk>⟧ door.now.settings devices result.1 output.old output.new result.0 }
+    ensures early { EndsEarlyWhere ⟦<D as Disk>⟧ door.now.settings devices output.old output.new result }
 {
     let store = match Store::recover(alloc, devices, door.settings.frames, Caps::profile()) {
         Ok(store) => store,
-        Err(refused) => return (Err(refused), Trail::new(), Trail::new(), Taken::none()),
+        Err(refused) => return (Err(refused), Course::none()),
     };
-    let mut opened = Trail::new();
-    opened.push(Opened::of(&store));
+    let opened = Seen::of(&store);
     let Service {
         store,
         moments,
+        talks,
         taken,
         ended,
     } = serve_and_print(rt, alloc, store, door, output);
+    let course = Course::between(opened, moments, talks, &store, taken);
     match ended {
-        Ok(()) => (Ok(store), moments, opened, taken),
-        Err(refusal) => (Err((refusal, store.into_devices())), moments, opened, taken),
+        Ok(()) => (Ok(store), course),
+        Err(refusal) => (Err((refusal, store.into_devices())), course),
     }
 }
 
@@ -453,19 +490,16 @@ pub struct Outcome<D: Disk> {
     pub status: u8,
     /// The store, or the devices where there is none.
     pub ended: Result<Store<D>, Devices<D>>,
-    /// The moments since the opening of the store, the newest first, which contracts alone see.
-    pub moments: Trail<Moment<D>>,
-    /// The store as it was when it was opened, if it was. Contracts alone see it.
-    pub opened: Trail<Opened<D>>,
-    /// How many connections workers took.
-    pub taken: Taken,
+    /// How it went.
+    pub course: Course<D>,
 }
 
 /// Recovers the store that the devices hold, prints `ready` and what the server listens on, takes the connections, holds their conversations, makes
 /// checkpoints meanwhile, and prints `served`, how many were taken, and the end line. All accepted events are durable then. Answers the status, 0 with the store, or 3
-/// with the devices where they hold no store, a device or the output failed, or memory or room was refused,
+/// with the devices where they hold no store, a device or the output failed, no more connections came, or memory or room was refused,
 /// which is told among the faults. A connection that fails ends alone. Whatever ends it, no durable event is lost, and each image between two
-/// neighbouring moments has a front of the accepted events. The store is opened with the frames of the settings and the greatest caps.
+/// neighbouring moments has a front of the accepted events. All of them are durable unless a device failed. What each Ack in the conversations of
+/// `course` told a client is durable, whatever ended it. The store is opened with the frames of the settings and the greatest caps.
 ///
 /// It waits until so many connections were served.
 pub fn serve<
@@ -487,29 +521,19 @@ pub fn serve<
     ensures quiet { OnOk result.ended (outputs.new.faults.calls ≡ outputs.old.faults.calls) }
     ensures early { StopsEarly ⟦<D as Disk>⟧ door.now.settings devices outputs.old outputs.new result }
 {
-    let (ended, moments, opened, taken) = recover_and_serve(
-        rt,
-        alloc,
-        devices,
-        door,
-        &mut outputs.output,
-    );
+    let (ended, course) = recover_and_serve(rt, alloc, devices, door, &mut outputs.output);
     match ended {
         Ok(store) => Outcome {
             status: 0,
             ended: Ok(store),
-            moments,
-            opened,
-            taken,
+            course,
         },
         Err((refusal, devices)) => {
             let status = end_by_fault(refusal, &mut outputs.faults);
             Outcome {
                 status,
                 ended: Err(devices),
-                moments,
-                opened,
-                taken,
+                course,
             }
         }
     }

@@ -1,8 +1,7 @@
 //! What a server does with its store when the connections are served.
 
-ghost use Rattle.std.specs.Prelude.{◌≡◌, ◌≤◌, IfErr, IsTrue, OnOk, false};
-ghost use Rattle.hg_store.specs.Images.{failures_of};
-ghost use Rattle.hg_server.specs.Serving.{IsSettled, StillWentOn};
+ghost use Rattle.std.specs.Prelude.{◌≡◌, ◌∷◌, IfErr, OnOk};
+ghost use Rattle.hg_server.specs.Settling.{IsCommitFault, IsSettled, KeepsDurable, SettlesOrBreaks, StillWentOn};
 
 use crate::fault::ServingFault;
 use crate::handing::Taken;
@@ -13,27 +12,27 @@ use hg_store::store::Store;
 use hg_trail::Trail;
 use std::alloc::AllocError;
 
-/// How a failed commit is told: `Broken` where a device had failed before for a client, who was told; else as a device fault of the server.
-fn commit_fault(refusal: Refusal, has_failed: bool) -> ServingFault
-    ensures { result ≡ ServingFault.Broken → IsTrue has_failed }
+/// How a refused commit is told: `Broken` where the store was broken before it; else a device failed in it.
+fn commit_fault(refusal: Refusal) -> ServingFault
+    ensures broken { refusal ≡ Refusal.Broken → result ≡ ServingFault.Broken }
+    ensures device { refusal ≡ Refusal.DeviceFault → result ≡ ServingFault.DeviceFault }
 {
-    if has_failed && refusal == Refusal::Broken {
-        return ServingFault::Broken;
+    match refusal {
+        Refusal::Broken => ServingFault::Broken,
+        _ => ServingFault::DeviceFault,
     }
-    ServingFault::DeviceFault
 }
 
-/// Makes all accepted events of a store durable.
+/// Makes all accepted events of a store durable, and notes the moment before.
 fn commit_all<D: Disk>(
     store: &mut Store<D>,
     moments: &mut Trail<Moment<D>>,
-    has_failed: bool,
 ) -> Result<(), ServingFault>
     ensures went { StillWentOn ⟦<D as Disk>⟧ moments.old store.old moments.new store.new }
-    ensures device { failures_of ⟦<D as Disk>⟧ store.old.devices ≤ failures_of ⟦<D as Disk>⟧ store.new.devices }
-    ensures works { OnOk result (store.new.is_broken ≡ false) }
-    ensures settled { OnOk result (IsTrue D.is_honest → IsSettled ⟦<D as Disk>⟧ store.new) }
-    ensures broken { IfErr result (λ fault. fault ≡ ServingFault.Broken → IsTrue has_failed) }
+    ensures moment { moments.new ≡ store.old.devices ∷ moments.old }
+    ensures settled { OnOk result (IsSettled ⟦<D as Disk>⟧ store.new) }
+    ensures kept { KeepsDurable ⟦<D as Disk>⟧ store.old store.new }
+    ensures cause { IfErr result (IsCommitFault ⟦<D as Disk>⟧ store.old store.new) }
 {
     store.stands();
     moments.push(Moment::of(&*store));
@@ -41,31 +40,27 @@ fn commit_all<D: Disk>(
     store.stands();
     match committed {
         Ok(_) => Ok(()),
-        Err(refusal) => Err(commit_fault(refusal, has_failed)),
+        Err(refusal) => Err(commit_fault(refusal)),
     }
 }
 
-/// Makes all accepted events of a store durable, where the workers were taken in. Where they took fewer connections than they should, though the
-/// store works, the listener has failed.
+/// Makes all accepted events of a store durable, whatever came of the workers. Then memory may have been refused to take them in, or they took
+/// fewer connections than they should.
 pub(crate) fn settle<D: Disk>(
     store: &mut Store<D>,
     moments: &mut Trail<Moment<D>>,
-    has_failed: bool,
     taken_in: Result<(), AllocError>,
     taken: &Taken,
     connections: u16,
 ) -> Result<(), ServingFault>
     ensures went { StillWentOn ⟦<D as Disk>⟧ moments.old store.old moments.new store.new }
-    ensures device { failures_of ⟦<D as Disk>⟧ store.old.devices ≤ failures_of ⟦<D as Disk>⟧ store.new.devices }
-    ensures works { OnOk result (store.new.is_broken ≡ false) }
-    ensures settled { OnOk result (IsTrue D.is_honest → IsSettled ⟦<D as Disk>⟧ store.new) }
-    ensures broken { IfErr result (λ fault. fault ≡ ServingFault.Broken → IsTrue has_failed) }
+    ensures moment { moments.new ≡ store.old.devices ∷ moments.old }
+    ensures settled { OnOk result (IsSettled ⟦<D as Disk>⟧ store.new) }
+    ensures kept { KeepsDurable ⟦<D as Disk>⟧ store.old store.new }
     ensures all { OnOk result (taken.now.count ≡ connections) }
+    ensures cause { IfErr result (SettlesOrBreaks ⟦<D as Disk>⟧ store.old store.new connections taken.now) }
 {
+    commit_all(store, moments)?;
     taken_in?;
-    commit_all(store, moments, has_failed)?;
-    if taken.count() != connections {
-        return Err(ServingFault::DeviceFault);
-    }
-    Ok(())
+    taken.are(connections)
 }

@@ -7,6 +7,13 @@ use hg_streams::call::{ReadCall, WriteCall};
 use hg_trail::Trail;
 use std::io::{Error, ErrorKind, Read, Write};
 
+/// What was read and written on a connection, the newest call first, which contracts alone see.
+#[derive(Drop)]
+pub struct Transcript {
+    pub reads: Trail<ReadCall>,
+    pub writes: Trail<WriteCall>,
+}
+
 /// A connection, and its reads and writes so far, which take no memory.
 #[derive(Drop)]
 pub(crate) struct Wire<S> {
@@ -26,6 +33,21 @@ impl<S> Wire<S> {
             reads: Trail::new(),
             writes: Trail::new(),
         }
+    }
+}
+
+impl<S: Drop> Wire<S> {
+    /// Closes the connection. Gives what was read and written on it.
+    pub(crate) fn close(self) -> Transcript
+        ensures reads { result.reads ≡ self.reads }
+        ensures writes { result.writes ≡ self.writes }
+    {
+        let Wire {
+            stream: _,
+            reads,
+            writes,
+        } = self;
+        Transcript { reads, writes }
     }
 }
 

@@ -1,15 +1,16 @@
 //! Workers, which hold conversations.
 
 ghost use Rattle.std.specs.Prelude.{◌≡◌, ◌≤◌, ◌++◌, ◌∷◌, ℕ, List, [], All, IsTrue, false};
+ghost use Rattle.hg_receipts.specs.Receipts.{AreAmong};
 ghost use Rattle.hg_protocol.specs.Spelling.{FitsFrames};
 ghost use Rattle.hg_streams.specs.declared.call.WriteCall.TheVariants as call;
 ghost use Rattle.hg_server.specs.Replying.{replies_text};
-ghost use Rattle.hg_server.specs.Talking.{Answered, Carries, Ends, IsCutBehind, IsNew, LeavesFront, StaysDue, StaysRead, Takes, TellsFault};
+ghost use Rattle.hg_server.specs.Talking.{Answered, Carries, Ends, IsAcked, IsCutBehind, IsNew, LeavesFront, StaysDue, StaysRead, Takes, TellsFault, WereHeld};
 
 use crate::health::Terms;
 use crate::patience::{Patience, may_read_on};
 use crate::piece::Piece;
-use crate::wire::Wire;
+use crate::wire::{Transcript, Wire};
 use crossbeam_channel::{Receiver, Sender};
 use hg_desk::desk::Desk;
 use hg_desk::share::{Column, Opening, Share};
@@ -22,6 +23,7 @@ use hg_protocol::frame::Frame;
 use hg_protocol::put::put_reply;
 use hg_protocol::reply::Reply;
 use hg_streams::streams::{MOST_READS, PIECE_BYTES};
+use hg_trail::Trail;
 use std::alloc::Global;
 use std::io::{Read, Write};
 use std::mem::replace;
@@ -170,8 +172,8 @@ impl<'a, S> Talk<'a, S> {
     ) -> bool
         ensures accepted { seat.old.share.accepted ≤ seat.new.share.accepted }
         ensures durable { seat.old.share.durable ≤ seat.new.share.durable }
-        ensures answered { IsTrue result → Answered ⟦<D as Disk>⟧ A.start self.old self.new turn.now }
-        ensures cut { IsCutBehind ⟦<D as Disk>⟧ A.start self.old self.new turn.now }
+        ensures answered { IsTrue result → Answered ⟦<D as Disk>⟧ A.start self.old self.new seat.old.share seat.new.share turn.now }
+        ensures cut { IsCutBehind ⟦<D as Disk>⟧ A.start self.old self.new seat.old.share seat.new.share turn.now }
         ensures feed { self.new.feed ≡ self.old.feed }
     {
         let task = ConverseTask {
@@ -201,6 +203,24 @@ impl<'a, S> Talk<'a, S> {
             return false;
         }
         !is_farewell(replies)
+    }
+}
+
+impl<'a, S: Drop> Talk<'a, S> {
+    /// Lets the conversation go, which closes its connection. Gives what was read and written on it.
+    fn close(self) -> Transcript
+        ensures reads { result.reads ≡ self.entry.wire.reads }
+        ensures writes { result.writes ≡ self.entry.wire.writes }
+    {
+        let Talk {
+            wire,
+            desk: _,
+            feed: _,
+            replies: _,
+            was_answered: _,
+            nudges: _,
+        } = self;
+        wire.close()
     }
 }
 
@@ -238,7 +258,7 @@ impl<'a, S: Write> Talk<'a, S> {
     ) -> Course
         ensures accepted { seat.old.share.accepted ≤ seat.new.share.accepted }
         ensures durable { seat.old.share.durable ≤ seat.new.share.durable }
-        ensures carried { Carries ⟦<D as Disk>⟧ A.start self.old self.new frames.now result }
+        ensures carried { Carries ⟦<D as Disk>⟧ A.start self.old self.new seat.old.share seat.new.share frames.now result }
         ensures feed { self.new.feed ≡ self.old.feed }
     {
         let mut rest = frames;
@@ -276,7 +296,7 @@ impl<'a, S: Write> Talk<'a, S> {
     ) -> Course
         ensures accepted { seat.old.share.accepted ≤ seat.new.share.accepted }
         ensures durable { seat.old.share.durable ≤ seat.new.share.durable }
-        ensures taken { Takes ⟦<D as Disk>⟧ A.start self.old self.new piece.now result }
+        ensures taken { Takes ⟦<D as Disk>⟧ A.start self.old self.new seat.old.share seat.new.share piece.now result }
     {
         let Ok(fed) = self.feed.push(piece) else {
             return Course::End;
@@ -316,7 +336,7 @@ fn converse<D: Disk, A: Opening, B: Column, S: Read + Write + Drop, G: Gate, R: 
     requires new { IsNew talk.old }
     ensures accepted { seat.old.share.accepted ≤ seat.new.share.accepted }
     ensures durable { seat.old.share.durable ≤ seat.new.share.durable }
-    ensures talked { Ends ⟦<D as Disk>⟧ A.start result talk.new }
+    ensures talked { Ends ⟦<D as Disk>⟧ A.start seat.old.share result talk.new seat.new.share }
 {
     let mut patience = Patience::new(seat.rt, seat.terms);
     for _ in 0..MOST_READS {
@@ -341,7 +361,8 @@ fn converse<D: Disk, A: Opening, B: Column, S: Read + Write + Drop, G: Gate, R: 
 }
 
 /// Holds the conversations of a channel, one after another, until it is closed and empty or the gate says stop, and gives the share
-/// back. A connection is one value that is read and written; it is closed when its conversation ends. One that fails ends alone.
+/// back, with what was read and written in each, the newest first, which contracts alone see. A connection is one value that is read and
+/// written; it is closed when its conversation ends. One that fails ends alone.
 /// What it reads into is taken before it begins, so it never ends for want of memory; a conversation may. Behind an Ack it leaves a nudge for
 /// the flusher, if a checkpoint is due and no nudge waits.
 ///
@@ -351,20 +372,26 @@ pub fn worker<D: Disk, A: Opening, B: Column, S: Read + Write + Drop, G: Gate, R
     piece: Piece,
     connections: &Receiver<S>,
     nudges: &Sender<()>,
-) -> Share<A, B>
-    ensures accepted { seat.entry.share.accepted ≤ result.accepted }
-    ensures durable { seat.entry.share.durable ≤ result.durable }
+) -> (Share<A, B>, Trail<Transcript>)
+    ensures accepted { seat.entry.share.accepted ≤ result.0.accepted }
+    ensures durable { seat.entry.share.durable ≤ result.0.durable }
+    ensures acks { AreAmong seat.entry.share.acks result.0.acks }
+    ensures talks { WereHeld ⟦<D as Disk>⟧ A.start seat.entry.share result.1 result.0 }
+    ensures acked { All (IsAcked ⟦<D as Disk>⟧ A.start result.0) result.1 }
 {
     let mut seat = seat;
     let mut piece = piece;
+    let mut held = Trail::new();
     for _ in seat.rt.forever() {
         let Ok(stream) = connections.recv(seat.rt) else {
             break;
         };
         let mut talk = Talk::new(seat.alloc, stream, nudges);
-        if converse(&mut seat, &mut talk, piece.as_mut_slice()) == Course::Stop {
+        let course = converse(&mut seat, &mut talk, piece.as_mut_slice());
+        held.push(talk.close());
+        if course == Course::Stop {
             break;
         }
     }
-    seat.share
+    (seat.share, held)
 }

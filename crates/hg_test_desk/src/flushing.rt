@@ -192,7 +192,8 @@ fn hold_conversation<A: Opening, B: Column, R: Wait + Clock>(
     };
     let _ = to.send(table.rt, peer);
     drop(to);
-    worker(table.seat(share, &OpenGate), piece, &from, nudges)
+    let (share, _) = worker(table.seat(share, &OpenGate), piece, &from, nudges);
+    share
 }
 
 /// Sends bytes to a worker, and tells the replies and how many nudges wait then.
@@ -282,11 +283,7 @@ fn take_in<A: Opening, B: Column>(
     };
     match gather(shares, shared) {
         Ok(taken_in) => {
-            let TakenIn {
-                store,
-                moments: _,
-                has_failed: _,
-            } = taken_in;
+            let TakenIn { store, moments: _ } = taken_in;
             put_store(alloc, store, out);
         }
         Err((_, _, tally)) => put_tally(&tally, out),

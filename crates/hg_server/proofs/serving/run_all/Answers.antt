@@ -2,12 +2,14 @@ use denote.Builtin.{unit}
 use denote.Exit.{no}
 use denote.Param.{param}
 use denote.Param.Send.{IsSend, IsSync, arg_send, param_send, param_sync, sendable, shr_send}
-use Rattle.std.proofs.Common.{rules, [], ◌∷◌}
+use Rattle.std.proofs.Common.{rules, [], ◌∷◌, subst}
 use Rattle.std.proofs.Crossing.{crosses}
 use Rattle.std.below.std_heap.proofs.GlobalAllocator.TheSendSync as allocator
 use Rattle.std.proofs.alloc.Global.TheSendSync as heap
 use Rattle.crossbeam_channel.proofs.channel.Receiver.TheSendSync as receiver
 use Rattle.hg_desk.proofs.share.Share.TheSendSync as share
+use Rattle.hg_server.specs.Acknowledged.{EachToldItsAcks}
+use Rattle.hg_server.proofs.Acknowledged.{back_told}
 use Rattle.hg_server.proofs.Crossing.{shared_sync, closure_send}
 use Rattle.hg_server.proofs.flusher.Due.TheSendSync as due
 use Rattle.hg_server.proofs.health.Terms.TheSendSync as terms
@@ -31,3 +33,12 @@ join-share-requires-send-F g c κs within =
         ),
       ),
     )))
+
+pub returns : goal.returns
+returns g c =
+    let start = g.A.Opening.start in
+    let told : EachToldItsAcks g.D.Disk start c.join-share.result.1.0 = search rules in
+    record {
+      told = back_told g.D.Disk start c.join-share.result.0 c.in-Ok-worked.worked.items c.part.result c.part.ensures.shares c.part.ensures.talks
+          (subst (λ r. EachToldItsAcks g.D.Disk start r) c.in-Ok-worked.is told);
+    }

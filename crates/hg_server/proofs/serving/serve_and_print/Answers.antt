@@ -1,53 +1,62 @@
-use Rattle.std.proofs.Common.{ℕ, List, inl, inr, refl, sym, subst}
+use Rattle.std.proofs.Common.{ℕ, List, refl, sym, subst, OnOk}
 use Rattle.std.proofs.lemmas.Result.{IfErr-at_err, on_ok_weaker}
 use Rattle.hg_model.specs.declared.verdict.Refusal.{Refusal}
-use Rattle.hg_disk.specs.declared.disk.Disk as disk
-use Rattle.hg_store.specs.declared.devices.Devices.{Devices}
-use Rattle.hg_server.specs.declared.fault.ServingFault.{ServingFault}
-use Rattle.hg_server.specs.declared.fault.ServingFault.TheVariants as fault
 use Rattle.hg_store.specs.Shown.{live}
 use Rattle.hg_streams.proofs.Printed.{appends_on, front_more}
-use Rattle.hg_streams.specs.Faults.{IsStreamFault}
+use Rattle.hg_streams.specs.Faults.{HasWriteCause}
 use Rattle.hg_streams.proofs.Fronts.{printed_front, took_front}
 use Rattle.hg_desk.specs.Going.{WentOn, began}
 use Rattle.hg_desk.proofs.Going.{went_nowhere}
-use Rattle.hg_server.specs.Serving.{IsServingFault, IsToldTruly, ready_text, refusal_of, served_text, serving_text}
-use Rattle.hg_server.proofs.Leaving.{if_err_weaker}
+use Rattle.hg_server.specs.Serving.{ready_text, served_text, serving_text}
+use Rattle.hg_server.specs.Settling.{IsServingFault, IsSettled, StopsFor}
+use Rattle.hg_server.proofs.Acknowledged.{none_durable}
+use Rattle.hg_server.proofs.Leaving.{if_err_weaker, output_fault, serving_fault, took_failed}
 use Rattle.hg_server.proofs.serving.serve_and_print.Goals as goal
 
--- a fault that is told by the refusal of its name
-of_fault : {D : Type 0} (g : disk.Ghosts D) (old new : Devices D) (f : ServingFault) → IsToldTruly g old new f → IsServingFault g old new (refusal_of f)
-of_fault g old new fault.Broken truly = inl (refl, truly refl)
-of_fault g old new fault.DeviceFault truly = inr (inl refl)
-of_fault g old new fault.OutOfMemory truly = inr (inr refl)
-
--- one of the output or of want of memory
-of_stream : {D : Type 0} (g : disk.Ghosts D) (old new : Devices D) (r : Refusal) → IsStreamFault r → IsServingFault g old new r
-of_stream g old new r (inl is) = inr (inr is)
-of_stream g old new r (inr is) = inr (inl is)
+pub returns-in-Err-clause-acked : goal.returns-in-Err-clause-acked
+returns-in-Err-clause-acked g c = none_durable g.D.Disk c.args.store c.args.store c.new-in-Err.result c.new-in-Err.ensures
 
 pub returns-in-Err-clause-cause : goal.returns-in-Err-clause-cause
 returns-in-Err-clause-cause g c =
-    of_stream g.D.Disk c.args.store.devices c.args.store.devices c.in-Err.refusal (IfErr-at_err IsStreamFault c.in-Err.is c.announce.ensures.cause)
+    let old = c.args.output.now.calls in
+    let new = c.announce.new.output.calls in
+    output_fault g.D.Disk c.args.door.now.settings.connections c.args.store.devices c.new.result c.args.store c.none.result old old new c.in-Err.refusal refl c.requires.settled
+    (IfErr-at_err (HasWriteCause old new) c.in-Err.is c.announce.ensures.cause)
 
 pub returns-in-Err-ended-clause-cause : goal.returns-in-Err-ended-clause-cause
 returns-in-Err-ended-clause-cause g c =
-    let old = c.args.store.devices in
-    let new = c.serve_by-store.result.store.devices in
-    let truly = IfErr-at_err (IsToldTruly g.D.Disk old new) c.in-Err-ended.is c.serve_by-store.ensures.cause in
-    subst (λ (r : Refusal). IsServingFault g.D.Disk old new r) (sym c.from.ensures) (of_fault g.D.Disk old new c.in-Err-ended.fault truly)
+    let settings = c.args.door.now.settings in
+    let start = c.args.store.devices in
+    let served = c.serve_by-store.result in
+    let old = c.args.output.now.calls in
+    let mid = c.announce.new.output.calls in
+    let none = took_failed old mid (ready_text settings) c.in-Ok.ensures.printed in
+    let stops = IfErr-at_err (StopsFor g.D.Disk settings.connections start served.moments served.store served.taken) c.in-Err-ended.is c.serve_by-store.ensures.cause in
+    subst (λ (r : Refusal). IsServingFault g.D.Disk settings.connections start served.moments served.store served.taken old mid r) (sym c.from.ensures)
+    (serving_fault g.D.Disk settings.connections start served.moments served.store served.taken old mid c.in-Err-ended.fault none stops)
 
-pub returns-clause-cause : goal.returns-clause-cause
-returns-clause-cause g c =
-    if_err_weaker IsStreamFault (IsServingFault g.D.Disk c.args.store.devices c.serve_by-store.result.store.devices) c.print_end-ended.result
-    (of_stream g.D.Disk c.args.store.devices c.serve_by-store.result.store.devices) c.print_end-ended.ensures.cause
+pub returns-in-Ok-ended-clause-cause : goal.returns-in-Ok-ended-clause-cause
+returns-in-Ok-ended-clause-cause g c =
+    let settings = c.args.door.now.settings in
+    let start = c.args.store.devices in
+    let served = c.serve_by-store.result in
+    let old = c.args.output.now.calls in
+    let mid = c.announce.new.output.calls in
+    let new = c.print_end-ended.new.output.calls in
+    let none = took_failed old mid (ready_text settings) c.in-Ok.ensures.printed in
+    let settled = subst (λ r. OnOk r (IsSettled g.D.Disk served.store)) c.in-Ok-ended.is c.serve_by-store.ensures.settled in
+    if_err_weaker (HasWriteCause mid new) (IsServingFault g.D.Disk settings.connections start served.moments served.store served.taken old new) c.print_end-ended.result
+    (λ (r : Refusal). output_fault g.D.Disk settings.connections start served.moments served.store served.taken old mid new r none settled)
+    c.print_end-ended.ensures.cause
 
-pub returns-clause-went : goal.returns-clause-went
-returns-clause-went g c = c.serve_by-store.ensures.went
+pub print_end-ended-requires : goal.print_end-ended-requires
+print_end-ended-requires g c =
+    let settled = subst (λ r. OnOk r (IsSettled g.D.Disk c.serve_by-store.result.store)) c.in-Ok-ended.is c.serve_by-store.ensures.settled in
+    record { works = settled.works }
 
 pub returns-in-Err-clause-went : goal.returns-in-Err-clause-went
 returns-in-Err-clause-went g c =
-    subst (λ ms. WentOn g.D.Disk (began g.D.Disk c.args.store) ms c.args.store) (sym c.new.ensures) (went_nowhere g.D.Disk c.args.store (λ honest. c.stands.ensures.backs honest))
+    subst (λ ms. WentOn g.D.Disk (began g.D.Disk c.args.store) ms c.args.store) (sym c.new.ensures) (went_nowhere g.D.Disk c.args.store c.requires.settled.backs)
 
 pub returns-in-Err-clause-front : goal.returns-in-Err-clause-front
 returns-in-Err-clause-front g c =
@@ -68,8 +77,8 @@ returns-in-Err-ended-clause-front g c =
     front_more old mid line (served_text settings.connections last) (serving_text settings last) refl
     (took_front old mid line c.in-Ok.ensures.printed)
 
-pub returns-clause-printed : goal.returns-clause-printed
-returns-clause-printed g c =
+pub returns-in-Ok-ended-clause-printed : goal.returns-in-Ok-ended-clause-printed
+returns-in-Ok-ended-clause-printed g c =
     let settings = c.args.door.now.settings in
     let old = c.args.output.now.calls in
     let mid = c.announce.new.output.calls in
@@ -79,8 +88,8 @@ returns-clause-printed g c =
     c.in-Ok.ensures.printed printed)
     c.print_end-ended.ensures.printed
 
-pub returns-clause-front : goal.returns-clause-front
-returns-clause-front g c =
+pub returns-in-Ok-ended-clause-front : goal.returns-in-Ok-ended-clause-front
+returns-in-Ok-ended-clause-front g c =
     let settings = c.args.door.now.settings in
     let old = c.args.output.now.calls in
     let mid = c.announce.new.output.calls in

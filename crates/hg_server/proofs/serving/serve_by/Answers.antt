@@ -1,17 +1,33 @@
-use Rattle.std.proofs.Common.{◌≡◌, ◌<◌, IsTrue, sym, subst}
+use Rattle.std.proofs.Common.{◌≡◌, ◌<◌, Option, inr, refl, true, sym, subst}
 use Rattle.hg_store.specs.Images.{failures_of}
-use Rattle.hg_desk.specs.Going.{WentOn, began}
+use Rattle.hg_store.specs.Shown.{saved}
+use Rattle.hg_desk.specs.Going.{Began, WentOn, began}
 use Rattle.hg_desk.proofs.Going.{went_nowhere}
-use Rattle.hg_server.specs.Serving.{IsToldTruly}
+use Rattle.hg_server.specs.Settling.{IsSettled, SettlesOrBreaks, StopsFor}
 use Rattle.hg_server.specs.declared.fault.ServingFault.{ServingFault}
-use Rattle.hg_server.specs.declared.fault.ServingFault.TheVariants as fault
-use Rattle.hg_server.proofs.Leaving.{if_err_weaker, told_truly}
+use Rattle.hg_server.specs.Acknowledged.{TalksAreDurable}
+use Rattle.hg_server.proofs.Acknowledged.{none_durable, still_durable}
+use Rattle.hg_server.proofs.Leaving.{if_err_weaker, stops_for}
 use Rattle.hg_server.proofs.serving.serve_by.Goals as goal
 
 pub returns-in-Err-clause-went : goal.returns-in-Err-clause-went
 returns-in-Err-clause-went g c =
     subst (λ s. WentOn g.D.Disk (began g.D.Disk c.args.store) c.new.result s) (sym c.in-Err.ensures.err.0)
-    (subst (λ ms. WentOn g.D.Disk (began g.D.Disk c.args.store) ms c.args.store) (sym c.new.ensures) (went_nowhere g.D.Disk c.args.store (λ honest. c.stands.ensures.backs honest)))
+    (subst (λ ms. WentOn g.D.Disk (began g.D.Disk c.args.store) ms c.args.store) (sym c.new.ensures) (went_nowhere g.D.Disk c.args.store c.requires.settled.backs))
+
+pub returns-in-Err-clause-cause : goal.returns-in-Err-clause-cause
+returns-in-Err-clause-cause g c = inr (inr (subst (λ s. IsSettled g.D.Disk s) (sym c.in-Err.ensures.err.0) c.requires.settled, inr refl))
+
+pub returns-in-Err-clause-acked : goal.returns-in-Err-clause-acked
+returns-in-Err-clause-acked g c = none_durable g.D.Disk c.args.store c.in-Err.store c.new-in-Err.result c.new-in-Err.ensures
+
+pub returns-clause-acked : goal.returns-clause-acked
+returns-clause-acked g c honest =
+    let mid = saved g.D.Disk c.take_in-back.result.0.store in
+    let left = saved g.D.Disk c.settle-ended.new.store in
+    let talks = c.take_in-back.result.1 in
+    subst (λ (o : Option Began). TalksAreDurable g.D.Disk o left talks) c.requires.start
+    (still_durable g.D.Disk g.A.Opening.start mid left talks (c.settle-ended.ensures.kept honest) (c.take_in-back.ensures.durable honest))
 
 pub returns-clause-went : goal.returns-clause-went
 returns-clause-went g c =
@@ -23,8 +39,12 @@ returns-clause-cause g c =
     let start = c.args.store in
     let mid = c.take_in-back.result.0.store in
     let new = c.settle-ended.new.store in
-    let has_failed = c.take_in-back.result.0.has_failed in
-    let failed : IsTrue has_failed → failures_of g.D.Disk start.devices < failures_of g.D.Disk mid.devices = λ is. c.take_in-back.ensures.failed is (began g.D.Disk start) c.requires.start in
-    if_err_weaker (λ (told : ServingFault). told ≡ fault.Broken → IsTrue has_failed) (IsToldTruly g.D.Disk start.devices new.devices) c.settle-ended.result
-    (λ (told : ServingFault). told_truly g.D.Disk start.devices mid.devices new.devices has_failed told failed c.settle-ended.ensures.device)
-    c.settle-ended.ensures.broken
+    let connections = c.args.door.now.settings.connections in
+    let taken = c.run_all-back.result.1 in
+    let before = c.take_in-back.result.0.moments in
+    let moments = c.settle-ended.new.moments in
+    let went = c.take_in-back.ensures.since (began g.D.Disk start) c.requires.start in
+    let failed : mid.is_broken ≡ true → failures_of g.D.Disk start.devices < failures_of g.D.Disk mid.devices = λ is. went.broken c.requires.settled.works is in
+    if_err_weaker (SettlesOrBreaks g.D.Disk mid new connections taken) (StopsFor g.D.Disk connections start.devices moments new taken) c.settle-ended.result
+    (λ (told : ServingFault). stops_for g.D.Disk connections start.devices mid new moments before taken told c.settle-ended.ensures.moment failed)
+    c.settle-ended.ensures.cause

@@ -5,4 +5,4 @@ use Rattle.hg_server.proofs.worker.converse.Given as goal
 abbrev pub invariant-loop : goal.invariant-loop
 invariant-loop g l =
     (l.fn.seat.share.accepted ≤ l.seat.share.accepted) × (l.fn.seat.share.durable ≤ l.seat.share.durable)
-    × IsAt g.D.Disk g.A.Opening.start l.talk [] l.talk.feed.left × (l.talk.replies.items ≡ [])
+    × IsAt g.D.Disk g.A.Opening.start l.fn.seat.share l.talk l.seat.share [] l.talk.feed.left × (l.talk.replies.items ≡ [])

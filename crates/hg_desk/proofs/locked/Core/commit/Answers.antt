@@ -1,8 +1,7 @@
-use Rattle.std.proofs.Common.{rules, ◌≡◌, ◌⊎◌, inl, inr, ◌+◌, ◌<◌, ℕ, IsTrue, ap, refl, subst, ◌∙◌, arith}
+use Rattle.std.proofs.Common.{rules, ◌≡◌, ◌+◌, ℕ, ap, refl, subst, ◌∙◌, arith}
 use Rattle.hg_detect.specs.Shown as detect
 use Rattle.hg_pool.specs.Maps as pools
 use Rattle.hg_pool.specs.Shown as pool
-use Rattle.hg_store.specs.Doing.{fails_by}
 use Rattle.hg_store.specs.Shown.{ShownStore}
 use Rattle.hg_store.specs.declared.steps.Step.TheVariants.{Commit}
 use Rattle.hg_store.specs.declared.steps.StepResult.TheVariants.{Committed}
@@ -10,7 +9,6 @@ use Rattle.hg_desk.specs.Told.{StepKept, Told, fitting, made_durable}
 use Rattle.hg_desk.proofs.Counts.{Steps, core_after, fitting_none, kept_on}
 use Rattle.hg_desk.proofs.locked.Core.commit.Given as given
 use Rattle.hg_desk.proofs.locked.Core.commit.Goals as goal
-use Rattle.hg_desk.proofs.locked.Core.commit.Goals.{then-self, else-self}
 
 -- what holds once the commit was made
 module _ (g : given.Over) (c : goal.After-note_durable g) where
@@ -32,17 +30,13 @@ module _ (g : given.Over) (c : goal.After-note_durable g) where
 
 pub invariant_of-self : goal.invariant_of-self
 invariant_of-self g c =
-    let from : IsTrue c.if-self.self → IsTrue c.self.inside.has_failed ⊎ ((n : ℕ) → n < fails_by (Committed c.commit-answer.result) n) = λ is. elim c.if-self.branch [
-      | then-self w ↦ inl w.if-self.true
-      | else-self w ↦ inr (w.is_failure-self-inside.ensures (subst IsTrue w.self-is is))
-    ] in
     core_after g.D.Disk g.A.Opening.start g.A.Column.opening g.B.Column.opening c.self.inside.store c.commit-answer.new.self Commit (Committed c.commit-answer.result) (steps g c)
-    c.self.inside.accepted.total c.self.inside.durable.total c.self.inside.accepted_count c.self.inside.durable_count c.self.inside.moments c.self.inside.has_failed c.self.inside.acks c.self.invariant
+    c.self.inside.accepted.total c.self.inside.durable.total c.self.inside.accepted_count c.self.inside.durable_count c.self.inside.moments c.self.inside.acks c.self.invariant
     c.note_moment-before.result c.note_moment-before.ensures.durable
-    c.self.inside.accepted.total c.note_durable.new.book.total c.self.inside.accepted_count c.note_durable.new.count c.note_moment-before.new.moments c.if-self.self
+    c.self.inside.accepted.total c.note_durable.new.book.total c.self.inside.accepted_count c.note_durable.new.count c.note_moment-before.new.moments
     (none g c c.self.inside.accepted.total)
     (c.note_durable.ensures.book ∙ ap (λ (n : ℕ). c.self.inside.durable.total + fitting c.self.inside.durable.total n) c.durable_by_commit.ensures)
-    c.self.invariant.accepted_counted c.note_durable.ensures.count c.note_moment-before.ensures.moments from
+    c.self.invariant.accepted_counted c.note_durable.ensures.count c.note_moment-before.ensures.moments
 
 pub returns : goal.returns
 returns g c =
@@ -56,6 +50,6 @@ returns g c =
     let three : c.note_durable.new.share.acks ≡ c.args.share.now.acks = ap (λ (t : Told). t.acks) c.note_durable.ensures.share in
     let kept : StepKept g.D.Disk old new c.args.share.now c.note_durable.new.share Commit result =
     kept_on g.D.Disk g.A.Opening.start g.A.Column.opening g.B.Column.opening old new Commit result (steps g c)
-    c.self.inside.accepted.total c.self.inside.durable.total c.self.inside.accepted_count c.self.inside.durable_count c.self.inside.moments c.self.inside.has_failed c.self.inside.acks c.self.invariant
+    c.self.inside.accepted.total c.self.inside.durable.total c.self.inside.accepted_count c.self.inside.durable_count c.self.inside.moments c.self.inside.acks c.self.invariant
     c.note_moment-before.result c.note_moment-before.ensures.durable c.args.share.now c.note_durable.new.share one two three in
     subst (λ (s : ShownStore g.row.D.Denot). StepKept g.D.Disk s new c.args.share.now c.note_durable.new.share Commit result) c.self.view_is kept

@@ -1,5 +1,4 @@
-use Rattle.std.proofs.Common.{rules, ◌≡◌, ◌⊎◌, inl, inr, ◌+◌, ◌<◌, ℕ, IsTrue, ap, refl, subst, ◌∙◌, arith}
-use Rattle.hg_store.specs.Doing.{fails_by}
+use Rattle.std.proofs.Common.{rules, ◌≡◌, ◌+◌, ℕ, ap, refl, subst, ◌∙◌, arith}
 use Rattle.hg_store.specs.Shown.{ShownStore}
 use Rattle.hg_store.specs.declared.steps.Step.TheVariants.{Offer}
 use Rattle.hg_store.specs.declared.steps.StepResult.TheVariants.{Offered}
@@ -7,7 +6,6 @@ use Rattle.hg_desk.specs.Told.{StepKept, Told, fitting, taken}
 use Rattle.hg_desk.proofs.Counts.{Steps, core_after, fitting_none, kept_on}
 use Rattle.hg_desk.proofs.locked.Core.offer.Given as given
 use Rattle.hg_desk.proofs.locked.Core.offer.Goals as goal
-use Rattle.hg_desk.proofs.locked.Core.offer.Goals.{then-self, else-self}
 
 -- what holds once the offer was made
 module _ (g : given.Over) (c : goal.After-note_accepted g) where
@@ -29,16 +27,12 @@ module _ (g : given.Over) (c : goal.After-note_accepted g) where
 
 pub invariant_of-self : goal.invariant_of-self
 invariant_of-self g c =
-    let from : IsTrue c.if-self.self → IsTrue c.self.inside.has_failed ⊎ ((n : ℕ) → n < fails_by (Offered c.offer-answer.result) n) = λ is. elim c.if-self.branch [
-      | then-self w ↦ inl w.if-self.true
-      | else-self w ↦ inr (w.is_failure-self-inside.ensures (subst IsTrue w.self-is is))
-    ] in
     core_after g.D.Disk g.A.Opening.start g.A.Column.opening g.B.Column.opening c.self.inside.store c.offer-answer.new.self (Offer c.args.named.now) (Offered c.offer-answer.result) (steps g c)
-    c.self.inside.accepted.total c.self.inside.durable.total c.self.inside.accepted_count c.self.inside.durable_count c.self.inside.moments c.self.inside.has_failed c.self.inside.acks c.self.invariant
+    c.self.inside.accepted.total c.self.inside.durable.total c.self.inside.accepted_count c.self.inside.durable_count c.self.inside.moments c.self.inside.acks c.self.invariant
     c.note_moment-before.result c.note_moment-before.ensures.durable
-    c.note_accepted.new.book.total c.self.inside.durable.total c.note_accepted.new.count c.self.inside.durable_count c.note_moment-before.new.moments c.if-self.self
+    c.note_accepted.new.book.total c.self.inside.durable.total c.note_accepted.new.count c.self.inside.durable_count c.note_moment-before.new.moments
     (c.note_accepted.ensures.book ∙ ap (λ (n : ℕ). c.self.inside.accepted.total + fitting c.self.inside.accepted.total n) c.accepted_by_offer.ensures)
-    (none g c c.self.inside.durable.total) c.note_accepted.ensures.count c.self.invariant.durable_counted c.note_moment-before.ensures.moments from
+    (none g c c.self.inside.durable.total) c.note_accepted.ensures.count c.self.invariant.durable_counted c.note_moment-before.ensures.moments
 
 pub returns : goal.returns
 returns g c =
@@ -52,6 +46,6 @@ returns g c =
     let three : c.note_accepted.new.share.acks ≡ c.args.share.now.acks = ap (λ (t : Told). t.acks) c.note_accepted.ensures.share in
     let kept : StepKept g.D.Disk old new c.args.share.now c.note_accepted.new.share (Offer c.args.named.now) result =
     kept_on g.D.Disk g.A.Opening.start g.A.Column.opening g.B.Column.opening old new (Offer c.args.named.now) result (steps g c)
-    c.self.inside.accepted.total c.self.inside.durable.total c.self.inside.accepted_count c.self.inside.durable_count c.self.inside.moments c.self.inside.has_failed c.self.inside.acks c.self.invariant
+    c.self.inside.accepted.total c.self.inside.durable.total c.self.inside.accepted_count c.self.inside.durable_count c.self.inside.moments c.self.inside.acks c.self.invariant
     c.note_moment-before.result c.note_moment-before.ensures.durable c.args.share.now c.note_accepted.new.share one two three in
     subst (λ (s : ShownStore g.row.D.Denot). StepKept g.D.Disk s new c.args.share.now c.note_accepted.new.share (Offer c.args.named.now) result) c.self.view_is kept

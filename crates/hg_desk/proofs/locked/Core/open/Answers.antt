@@ -1,5 +1,4 @@
 use Rattle.std.proofs.Common.{rules, ◌≡◌, List, [], ◌∷◌, Option, IfSome, sym, subst, arith}
-use Rattle.std.proofs.lemmas.Bool.{false≢true}
 use Rattle.std.proofs.lemmas.List.Elements.{All-append, All-cons}
 use Rattle.hg_receipts.specs.Receipts.{Has}
 use Rattle.hg_receipts.specs.declared.view.Acked.{Acked}
@@ -33,6 +32,5 @@ invariant_of-core g c = record {
       let same : start ≡ began g.D.Disk c.args.store = subst (λ (o : Option Began). IfSome o (λ s. s ≡ began g.D.Disk c.args.store)) is c.requires.start in
       let here : WentOn g.D.Disk (began g.D.Disk c.args.store) [] c.args.store = went_nowhere g.D.Disk c.args.store c.stands.ensures.backs in
       subst (λ s. WentOn g.D.Disk s c.new.result c.args.store) (sym same) (subst (λ ms. WentOn g.D.Disk (began g.D.Disk c.args.store) ms c.args.store) (sym c.new.ensures) here);
-  failed = λ is. absurd (false≢true is);
   acked = λ honest entry has. absurd (subst (λ (l : List Acked). Has l entry) c.loop-i.invariant.acks has);
 }

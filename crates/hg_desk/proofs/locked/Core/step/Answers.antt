@@ -1,11 +1,9 @@
-use Rattle.std.proofs.Common.{rules, ◌≡◌, ◌⊎◌, inl, inr, ◌+◌, ◌<◌, ℕ, IsTrue, ap, subst, ◌∙◌}
-use Rattle.hg_store.specs.Doing.{fails_by}
+use Rattle.std.proofs.Common.{rules, ◌≡◌, ◌+◌, ℕ, ap, subst, ◌∙◌}
 use Rattle.hg_store.specs.Shown.{ShownStore}
 use Rattle.hg_desk.specs.Told.{StepKept, Told, fitting, made_durable, taken}
 use Rattle.hg_desk.proofs.Counts.{Steps, core_after, kept_on}
 use Rattle.hg_desk.proofs.locked.Core.step.Given as given
 use Rattle.hg_desk.proofs.locked.Core.step.Goals as goal
-use Rattle.hg_desk.proofs.locked.Core.step.Goals.{then-self, else-self}
 
 -- what holds once the step was made
 module _ (g : given.Over) (c : goal.After-note_durable g) where
@@ -23,17 +21,13 @@ module _ (g : given.Over) (c : goal.After-note_durable g) where
 
 pub invariant_of-self : goal.invariant_of-self
 invariant_of-self g c =
-    let from : IsTrue c.if-self.self → IsTrue c.self.inside.has_failed ⊎ ((n : ℕ) → n < fails_by c.step-result.result n) = λ is. elim c.if-self.branch [
-      | then-self w ↦ inl w.if-self.true
-      | else-self w ↦ inr (w.tells_failure-self-inside.ensures (subst IsTrue w.self-is is))
-    ] in
     core_after g.D.Disk g.A.Opening.start g.A.Column.opening g.B.Column.opening c.self.inside.store c.step-result.new.self c.args.step.now c.step-result.result (steps g c)
-    c.self.inside.accepted.total c.self.inside.durable.total c.self.inside.accepted_count c.self.inside.durable_count c.self.inside.moments c.self.inside.has_failed c.self.inside.acks c.self.invariant
+    c.self.inside.accepted.total c.self.inside.durable.total c.self.inside.accepted_count c.self.inside.durable_count c.self.inside.moments c.self.inside.acks c.self.invariant
     c.note_moment-before.result c.note_moment-before.ensures.durable
-    c.note_accepted.new.book.total c.note_durable.new.book.total c.note_accepted.new.count c.note_durable.new.count c.note_moment-before.new.moments c.if-self.self
+    c.note_accepted.new.book.total c.note_durable.new.book.total c.note_accepted.new.count c.note_durable.new.count c.note_moment-before.new.moments
     (c.note_accepted.ensures.book ∙ ap (λ (n : ℕ). c.self.inside.accepted.total + fitting c.self.inside.accepted.total n) c.accepted_by.ensures)
     (c.note_durable.ensures.book ∙ ap (λ (n : ℕ). c.self.inside.durable.total + fitting c.self.inside.durable.total n) c.durable_by.ensures)
-    c.note_accepted.ensures.count c.note_durable.ensures.count c.note_moment-before.ensures.moments from
+    c.note_accepted.ensures.count c.note_durable.ensures.count c.note_moment-before.ensures.moments
 
 pub returns : goal.returns
 returns g c =
@@ -49,6 +43,6 @@ returns g c =
     let three : c.note_durable.new.share.acks ≡ c.args.share.now.acks = ap (λ (t : Told). t.acks) c.note_durable.ensures.share ∙ ap (λ (t : Told). t.acks) c.note_accepted.ensures.share in
     let kept : StepKept g.D.Disk old new c.args.share.now c.note_durable.new.share c.args.step.now result =
     kept_on g.D.Disk g.A.Opening.start g.A.Column.opening g.B.Column.opening old new c.args.step.now result (steps g c)
-    c.self.inside.accepted.total c.self.inside.durable.total c.self.inside.accepted_count c.self.inside.durable_count c.self.inside.moments c.self.inside.has_failed c.self.inside.acks c.self.invariant
+    c.self.inside.accepted.total c.self.inside.durable.total c.self.inside.accepted_count c.self.inside.durable_count c.self.inside.moments c.self.inside.acks c.self.invariant
     c.note_moment-before.result c.note_moment-before.ensures.durable c.args.share.now c.note_durable.new.share one two three in
     subst (λ (s : ShownStore g.row.D.Denot). StepKept g.D.Disk s new c.args.share.now c.note_durable.new.share c.args.step.now result) c.self.view_is kept

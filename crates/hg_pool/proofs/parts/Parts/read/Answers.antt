@@ -15,11 +15,11 @@ pub returns-in-None-clause-cells : goal.returns-in-None-clause-cells
 returns-in-None-clause-cells g c h i lt =
     let p = c.args.self.now in
     let none : slot_in p.live.entries c.args.page ≡ None = search rules in
-    ap (λ (l : List Cell). get_or l i New) c.new.ensures ∙ new_cells 256 i ∙ sym (ap (λ (o : Option ℕ). in_slot (bytes_of g.D.Disk (shown_of p)) o i) none)
+    ap (λ (l : List Cell). get_or l i New) c.requires.new ∙ new_cells 256 i ∙ sym (ap (λ (o : Option ℕ). in_slot (bytes_of g.D.Disk (shown_of p)) o i) none)
 
 pub returns-in-None-clause-named : goal.returns-in-None-clause-named
 returns-in-None-clause-named g c i =
-    subst (λ (l : List Cell). IsWithin c.args.segments (length c.args.sets.now.sets) (get_or l i New)) (sym c.new.ensures) (new_within 256 c.args.segments (length c.args.sets.now.sets) i)
+    subst (λ (l : List Cell). IsWithin c.args.segments (length c.args.sets.now.sets) (get_or l i New)) (sym c.requires.new) (new_within 256 c.args.segments (length c.args.sets.now.sets) i)
 
 pub returns-in_ok-read_page-in-Some-clause-stays : goal.returns-in_ok-read_page-in-Some-clause-stays
 returns-in_ok-read_page-in-Some-clause-stays g c = stays_read g.D.Disk (shown_of c.args.self.now) c.read_page.new.self c.read_page.ensures.stays.any_moment c.read_page.ensures.stays.works (more_after c.read_page.result (g.D.Disk.failures (disk_of (shown_of c.args.self.now))) (g.D.Disk.failures (files.disk_of c.read_page.new.self)) c.read_page.ensures.device) c.read_page.ensures.stays.known
@@ -32,7 +32,7 @@ returns-in_ok-read_page-in-Some-clause-cells g c h i lt =
     let p = c.args.self.now in
     let some : slot_in p.live.entries c.args.page ≡ Some c.in-Some.slot = search rules in
     let was = whole_before g.D.Disk (shown_of p) c.read_page.new.self c.read_page.ensures.stays.known h in
-    read_there g.D.Disk (shown_of p) c.args.page c.in-Some.slot i c.in_ok-read_page-in-Some.field-0 c.args.segments c.args.sets.now.sets (bytes_of g.D.Disk (record (shown_of p) { file = c.read_page.new.self })) lt some c.read_page.ensures.stays.known (c.in_ok-read_page-in-Some.ensures.read was.honest)
+    read_there g.D.Disk (shown_of p) c.args.page c.in-Some.slot i c.read_page.new.cells c.args.segments c.args.sets.now.sets (bytes_of g.D.Disk (record (shown_of p) { file = c.read_page.new.self })) lt some c.read_page.ensures.stays.known (c.in_ok-read_page-in-Some.ensures.read was.honest)
 
 pub returns-in_err-read_page-in-Some-clause-whole : goal.returns-in_err-read_page-in-Some-clause-whole
 returns-in_err-read_page-in-Some-clause-whole g c h known =
@@ -44,4 +44,4 @@ returns-in_err-read_page-in-Some-clause-whole g c h known =
 
 pub returns-in_ok-read_page-in-Some-clause-named : goal.returns-in_ok-read_page-in-Some-clause-named
 returns-in_ok-read_page-in-Some-clause-named g c =
-    cells_within c.args.segments c.args.sets.now.sets c.in_ok-read_page-in-Some.field-0 c.in_ok-read_page-in-Some.ensures.named
+    cells_within c.args.segments c.args.sets.now.sets c.read_page.new.cells c.in_ok-read_page-in-Some.ensures.named

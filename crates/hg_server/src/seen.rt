@@ -1,4 +1,4 @@
-//! The opening of a store that is served, which contracts alone see.
+//! A store as it was at one moment, which contracts alone see.
 
 ghost use Rattle.std.specs.Prelude.{◌≡◌};
 
@@ -7,13 +7,13 @@ use hg_store::store::Store;
 use std::marker::Model;
 use std::snapshot::Snapshot;
 
-/// A store as it was when it was opened. It has no bytes. Nothing but `of` makes one, and that borrows the store, so it is one that there was.
+/// A store as it was at one moment. It has no bytes. Nothing but `of` makes one, and that borrows the store, so it is one that there was.
 #[derive(Drop)]
-pub struct Opened<D: Disk> {
+pub struct Seen<D: Disk> {
     store: Snapshot<Store<D>>,
 }
 
-impl<D: Disk> Model for Opened<D> {
+impl<D: Disk> Model for Seen<D> {
     ghost use Rattle.hg_store.specs.Shown.{ShownStore};
 
     ghost Value = { ShownStore D };
@@ -21,12 +21,12 @@ impl<D: Disk> Model for Opened<D> {
     ghost view = { λ o. o.store.value };
 }
 
-impl<D: Disk> Opened<D> {
+impl<D: Disk> Seen<D> {
     /// This store.
-    pub fn of(store: &Store<D>) -> Opened<D>
+    pub fn of(store: &Store<D>) -> Seen<D>
         ensures { result ≡ store.now }
     {
-        Opened {
+        Seen {
             store: Snapshot::of(store),
         }
     }

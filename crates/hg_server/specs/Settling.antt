@@ -1,0 +1,86 @@
+-- What is left of a store when the connections are served, and why serving it ends early.
+use Rattle.std.specs.Prelude.{◌≡◌, ◌⊎◌, ◌<◌, ℕ, List, [], ◌∷◌, IsTrue, false, true}
+use Rattle.hg_model.specs.declared.verdict.Refusal.{Refusal}
+use Rattle.hg_model.specs.declared.verdict.Refusal.TheVariants.{Broken, DeviceFault}
+use Rattle.hg_disk.specs.declared.disk.Disk as disk
+use Rattle.hg_store.specs.declared.devices.Devices.{Devices}
+use Rattle.hg_store.specs.Images.{failures_of}
+use Rattle.hg_store.specs.Shown.{ShownStore, live, saved}
+use Rattle.hg_store.specs.Store.{Backs}
+use Rattle.hg_streams.specs.Faults.{HasWriteCause}
+use Rattle.hg_streams.specs.declared.call.WriteCall.{WriteCall}
+use Rattle.hg_desk.specs.Going.{Began, LeadsTo, WentOn}
+use Rattle.hg_server.specs.declared.fault.ServingFault.{ServingFault}
+use Rattle.hg_server.specs.declared.fault.ServingFault.TheVariants as fault
+use Rattle.hg_server.specs.declared.handing.Taken.{Taken}
+
+-- the newest of some moments, or `now` where there was none
+abbrev pub newest : {X : Type 0} → X → List X → X
+newest now [] = now
+newest now (moment ∷ earlier) = moment
+
+-- Workers took fewer connections than so many, and no more came: the gate said stop, the store was broken, or no worker was left.
+abbrev pub WasCutShort : ℕ → Taken → Type 0
+WasCutShort connections taken = (taken.count < connections) × (taken.is_cut_short ≡ true)
+
+-- Why workers took too few connections: they were cut short, or memory was refused.
+abbrev pub TookTooFew : ℕ → Taken → ServingFault → Type 0
+TookTooFew connections taken told = ((told ≡ fault.DeviceFault) × WasCutShort connections taken) ⊎ (told ≡ fault.OutOfMemory)
+
+module _ {D : Type 0} (g : disk.Ghosts D) where
+  -- If the store `s` went on from its opening, so did the store `t` after it.
+  abbrev pub StillWentOn : List (Devices D) → ShownStore D → List (Devices D) → ShownStore D → Type 0
+  StillWentOn moments s later t = (start : Began) → WentOn g start moments s → WentOn g start later t
+
+  -- Over honest devices what was durable stays so: accepted events lead from the durable content to that of the store `t` after it.
+  abbrev pub KeepsDurable : (s t : ShownStore D) → Type 0
+  KeepsDurable s t = IsTrue g.is_honest → LeadsTo (saved g s) (saved g t)
+
+  -- A store works, and no accepted event waits for a commit. Over honest devices each is durable, and each image has the content with all.
+  pub record IsSettled (s : ShownStore D) : Type 0 where
+    pub works : s.is_broken ≡ false
+    pub pending : s.pending ≡ []
+    pub durable : IsTrue g.is_honest → saved g s ≡ live g s
+    pub backs : IsTrue g.is_honest → Backs g s
+
+  -- No call of the devices failed.
+  abbrev pub NoneFailed : (old new : Devices D) → Type 0
+  NoneFailed old new = failures_of g new ≡ failures_of g old
+
+  -- A call of the devices failed.
+  abbrev pub OneFailed : (old new : Devices D) → Type 0
+  OneFailed old new = failures_of g old < failures_of g new
+
+  -- A commit was refused by a store that was broken before it, or a device failed in it.
+  abbrev pub IsCommitFault : (old new : ShownStore D) → ServingFault → Type 0
+  IsCommitFault old new told =
+      (new.is_broken ≡ true)
+      × (((told ≡ fault.Broken) × (old.is_broken ≡ true) × NoneFailed old.devices new.devices)
+      ⊎ ((told ≡ fault.DeviceFault) × OneFailed old.devices new.devices))
+
+  -- The commit at the end was refused; or it settled the store, and workers took too few connections.
+  abbrev pub SettlesOrBreaks : (old new : ShownStore D) → ℕ → Taken → ServingFault → Type 0
+  SettlesOrBreaks old new connections taken told = IsCommitFault old new told ⊎ (IsSettled new × TookTooFew connections taken told)
+
+  -- A store is broken by a call that failed before the last commit, which began at the newest moment.
+  abbrev pub BrokeBefore : Devices D → List (Devices D) → ShownStore D → Type 0
+  BrokeBefore old moments s = (s.is_broken ≡ true) × OneFailed old s.devices × NoneFailed (newest s.devices moments) s.devices
+
+  -- A store is broken by a call of the last commit.
+  abbrev pub CommitFailed : List (Devices D) → ShownStore D → Type 0
+  CommitFailed moments s = (s.is_broken ≡ true) × OneFailed (newest s.devices moments) s.devices
+
+  -- Why serving a store ends early. The store was broken before the last commit, or by it; or it is settled, and workers took too few
+  -- connections.
+  abbrev pub StopsFor : ℕ → Devices D → List (Devices D) → ShownStore D → Taken → ServingFault → Type 0
+  StopsFor connections old moments s taken told =
+      ((told ≡ fault.Broken) × BrokeBefore old moments s)
+      ⊎ (((told ≡ fault.DeviceFault) × CommitFailed moments s) ⊎ (IsSettled s × TookTooFew connections taken told))
+
+  -- The same with what is printed. Where the store is settled, no more connections came, a write of the output failed, or memory was refused
+  -- and no write failed.
+  abbrev pub IsServingFault : ℕ → Devices D → List (Devices D) → ShownStore D → Taken → (calls_old calls_new : List WriteCall) → Refusal → Type 0
+  IsServingFault connections old moments s taken calls_old calls_new r =
+      ((r ≡ Broken) × BrokeBefore old moments s)
+      ⊎ (((r ≡ DeviceFault) × CommitFailed moments s)
+      ⊎ (IsSettled s × (((r ≡ DeviceFault) × WasCutShort connections taken) ⊎ HasWriteCause calls_old calls_new r)))

@@ -1,0 +1,68 @@
+//! How a server went, from the opening of its store to the end.
+
+ghost use Rattle.std.specs.Prelude.{◌≡◌, ◌∷◌, []};
+
+use crate::handing::Taken;
+use crate::seen::Seen;
+use crate::wire::Transcript;
+use hg_desk::moment::Moment;
+use hg_disk::Disk;
+use hg_store::store::Store;
+use hg_trail::Trail;
+
+/// How a server went.
+#[derive(Drop)]
+pub struct Course<D: Disk> {
+    /// The store as it was when it was opened, if it was. Contracts alone see it.
+    pub opened: Trail<Seen<D>>,
+    /// The moments since the opening, the newest first, which contracts alone see.
+    pub moments: Trail<Moment<D>>,
+    /// What was read and written in the conversations of each worker, if its share was taken in. Contracts alone see it.
+    pub talks: Trail<Trail<Transcript>>,
+    /// The store as it was at the end, if one was opened. Contracts alone see it.
+    pub left: Trail<Seen<D>>,
+    /// How many connections workers took.
+    pub taken: Taken,
+}
+
+impl<D: Disk> Course<D> {
+    /// That of a server whose store was not opened.
+    pub(crate) fn none() -> Course<D>
+        ensures { result.opened ≡ [] }
+    {
+        Course {
+            opened: Trail::new(),
+            moments: Trail::new(),
+            talks: Trail::new(),
+            left: Trail::new(),
+            taken: Taken::none(),
+        }
+    }
+
+    /// That of a server that opened a store, and left one.
+    pub(crate) fn between(
+        opened: Seen<D>,
+        moments: Trail<Moment<D>>,
+        talks: Trail<Trail<Transcript>>,
+        store: &Store<D>,
+        taken: Taken,
+    ) -> Course<D>
+        ensures opened { result.opened ≡ opened ∷ [] }
+        ensures moments { result.moments ≡ moments }
+        ensures talks { result.talks ≡ talks }
+        ensures left { result.left ≡ store.now ∷ [] }
+        ensures taken { result.taken ≡ taken }
+    {
+        let mut all = Trail::new();
+        all.push(opened);
+        let mut left = Trail::new();
+        left.push(Seen::of(store));
+        Course {
+            opened: all,
+            moments,
+            talks,
+            left,
+            taken,
+        }
+    }
+}
