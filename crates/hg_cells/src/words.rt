@@ -11,7 +11,7 @@ ghost use Rattle.hg_cells.specs.declared.cell.Cell.TheVariants.{New};
 
 use crate::Cell;
 use crate::run::Run;
-use hg_model::limits::GREATEST_BLOCK;
+use hg_model::limits::{GREATEST_ACCESS, GREATEST_BLOCK};
 use hg_model::verdict::Refusal;
 use hg_sets::SetTable;
 
@@ -62,7 +62,7 @@ pub trait Words {
     fn bring(&mut self, at: u64, len: u16, segments: u32, sets: &SetTable) -> Result<(), Refusal>
         requires lawful { may_bring self.old segments (length sets.now.sets) }
         requires some { 0 < len }
-        requires few { len ≤ GREATEST_BLOCK }
+        requires few { len ≤ GREATEST_ACCESS }
         requires within { at + len ≤ 2 ^ 64 }
         ensures cells { (n m : ℕ) → is_faithful self.old n m → SameCells (cell_of self.old) (cell_of self.new) }
         ensures brought { OnOk result (ForOverlapped at len (is_brought self.new)) }
@@ -81,7 +81,7 @@ pub trait Words {
     fn keep(&mut self, at: u64, len: u16) -> Result<(), Refusal>
         requires brought { ForOverlapped at len (is_brought self.old) }
         requires some { 0 < len }
-        requires few { len ≤ GREATEST_BLOCK }
+        requires few { len ≤ GREATEST_ACCESS }
         requires within { at + len ≤ 2 ^ 64 }
         ensures cells { SameCells (cell_of self.old) (cell_of self.new) }
         ensures kept { OnOk result (ForOverlapped at len (is_kept self.new)) }

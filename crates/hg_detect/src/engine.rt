@@ -323,12 +323,11 @@ impl<W: Words> Engine<W> {
         ensures went { W.went self.old.words self.new.words }
         ensures failures { W.failures self.new.words ≡ failed_after result (W.failures self.old.words) }
     {
-        let len = u32::from(block.len);
         let segments = self.state.segments();
         self.words
-            .ready_to_clear(block.at, len, segments, &self.sets)?;
+            .ready_to_clear(block.at, block.len, segments, &self.sets)?;
         self.state.follow(named);
-        self.words.clear(block.at, len);
+        self.words.clear(block.at, block.len);
         Ok(())
     }
 

@@ -4,9 +4,9 @@ ghost use Rattle.hg_gate.specs.Batches.{IsBody};
 ghost use Rattle.hg_gate.specs.declared.batch.TheConstants.{MAX_BODY_LEN};
 
 /// The most bytes that a batch has.
-pub const MAX_BODY_LEN: usize = 23_552;
+pub const MAX_BODY_LEN: usize = 25_600;
 
-/// 1 to 23,552 bytes.
+/// 1 to 25,600 bytes.
 #[derive(Drop)]
 pub struct Batch {
     body: Vec<u8>,
@@ -17,7 +17,7 @@ pub struct Batch {
 impl Batch {
     ghost use Rattle.hg_gate.specs.Batch.{body_of, vec_of};
 
-    /// A batch of these bytes. Hands them back if there are none, or more than 23,552.
+    /// A batch of these bytes. Hands them back if there are none, or more than 25,600.
     pub fn new(body: Vec<u8>) -> Result<Batch, Vec<u8>>
         ensures ok { IfOk result (λ batch. IsBody body.items × (vec_of batch ≡ body)) }
         ensures err { IfErr result (λ refused. ¬ IsBody body.items × (refused ≡ body)) }

@@ -87,7 +87,7 @@ fn put_records(events: &[Named], body: &mut Vec<u8>)
     }
 }
 
-// A batch of these bytes, of which there are 1 to 23,552.
+// A batch of these bytes, of which there are 1 to 25,600.
 fn batch_of(body: Vec<u8>) -> Batch
     requires { IsBody body.items }
     ensures { vec_of result ≡ body }

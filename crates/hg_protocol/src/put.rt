@@ -4,7 +4,7 @@ ghost use Rattle.std.specs.Prelude.{◌≡◌, ◌≤◌, ◌<◌, ◌^◌, ◌+
 ghost use Rattle.std.specs.List.{AllByRecursion};
 ghost use Rattle.hg_protocol.specs.declared.reply.TheConstants.{MOST_REPLY_LINE};
 ghost use Rattle.hg_model.specs.ThreadSets.{IsThreadSet};
-ghost use Rattle.hg_records.specs.Records.{event_text};
+ghost use Rattle.hg_records.specs.Records.{by_length, event_text};
 ghost use Rattle.hg_wire.specs.Reports.{report_line, end_line};
 ghost use Rattle.hg_protocol.specs.Framing.{framed, frame_text};
 ghost use Rattle.hg_protocol.specs.Frames.{numbered_text};
@@ -15,7 +15,7 @@ use crate::frame::Frame;
 use crate::lines::ReportLines;
 use crate::message::Message;
 use crate::reply::Reply;
-use hg_model::event::Event;
+use hg_model::event::{Block, Event};
 use hg_model::report::Report;
 use hg_records::record::put_event;
 use hg_wire::report::{put_end_line, put_report_line};
@@ -38,6 +38,13 @@ pub fn put_frame(frame: &Frame, out: &mut Vec<u8>) -> Result<(), AllocError>
     }
 }
 
+/// The length of the body of the frame of an alloc or a free.
+fn block_body_len(block: Block) -> u8
+    ensures { (short long : ℕ) → result ≡ 9 + length (by_length short long block) }
+{
+    if block.len < 65_536 { 22 } else { 24 }
+}
+
 /// The length of the body of an event's frame.
 fn body_len(event: &Event) -> u8
     ensures { result ≡ 9 + length (event_text event.now) }
@@ -50,8 +57,8 @@ fn body_len(event: &Event) -> u8
         Event::Unlock { .. } => 14,
         Event::Read(_) => 21,
         Event::Write(_) => 21,
-        Event::Alloc(_) => 22,
-        Event::Free(_) => 22,
+        Event::Alloc(block) => block_body_len(*block),
+        Event::Free(block) => block_body_len(*block),
         Event::Send { .. } => 16,
         Event::Recv { .. } => 16,
     }

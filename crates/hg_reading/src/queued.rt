@@ -39,12 +39,12 @@ pub enum Queued {
     },
     Alloc {
         t: u16,
-        len: u16,
+        len: u32,
         at: u64,
     },
     Free {
         t: u16,
-        len: u16,
+        len: u32,
         at: u64,
     },
     Send {

@@ -1,6 +1,6 @@
 -- How an event is spelled in a journal: all numbers high byte first.
-use Rattle.std.specs.Prelude.{◌≡◌, ℕ, ◌<◌, ◌^◌, List, [], ◌∷◌, ◌++◌}
-use Rattle.std.specs.Int.{w16, w32, w64, to_be_bytes}
+use Rattle.std.specs.Prelude.{◌≡◌, ℕ, ◌<◌, ◌^◌, nat_lt, List, [], ◌∷◌, ◌++◌, if◌then◌else◌}
+use Rattle.std.specs.Int.{Width, w16, w32, w64, to_be_bytes}
 use Rattle.hg_model.specs.declared.event.Access.{Access}
 use Rattle.hg_model.specs.declared.event.Block.{Block}
 use Rattle.hg_model.specs.declared.event.Event.{Event}
@@ -14,8 +14,13 @@ pair_text t n = to_be_bytes w16 t ++ to_be_bytes w16 n
 abbrev pub access_text : Access → List ℕ
 access_text a = to_be_bytes w16 a.t ++ (to_be_bytes w64 a.at ++ a.len ∷ [])
 
-abbrev pub block_text : Block → List ℕ
-block_text b = to_be_bytes w16 b.t ++ (to_be_bytes w64 b.at ++ to_be_bytes w16 b.len)
+-- a block, its length in so many bits
+abbrev pub block_text : Width → Block → List ℕ
+block_text w b = to_be_bytes w16 b.t ++ (to_be_bytes w64 b.at ++ to_be_bytes w b.len)
+
+-- The kind and the operands of a block: the first kind where its length fits 16 bits, and else the second, with a length of 32.
+abbrev pub by_length : ℕ → ℕ → Block → List ℕ
+by_length short long b = if nat_lt b.len (2 ^ 16) then short ∷ block_text w16 b else long ∷ block_text w32 b
 
 -- a thread and a message
 abbrev pub message_text : ℕ → ℕ → List ℕ
@@ -30,8 +35,8 @@ event_text (RdLock t l) = 4 ∷ pair_text t l
 event_text (Unlock t l) = 5 ∷ pair_text t l
 event_text (Read a) = 6 ∷ access_text a
 event_text (Write a) = 7 ∷ access_text a
-event_text (Alloc b) = 8 ∷ block_text b
-event_text (Free b) = 9 ∷ block_text b
+event_text (Alloc b) = by_length 8 12 b
+event_text (Free b) = by_length 9 13 b
 event_text (Send t k) = 10 ∷ message_text t k
 event_text (Recv t k) = 11 ∷ message_text t k
 
@@ -46,7 +51,7 @@ abbrev pub AccessFits : Access → Type 0
 AccessFits a = (a.t < 2 ^ 16) × ((a.at < 2 ^ 64) × (a.len < 2 ^ 8))
 
 abbrev pub BlockFits : Block → Type 0
-BlockFits b = (b.t < 2 ^ 16) × ((b.at < 2 ^ 64) × (b.len < 2 ^ 16))
+BlockFits b = (b.t < 2 ^ 16) × ((b.at < 2 ^ 64) × (b.len < 2 ^ 32))
 
 abbrev pub MessageFits : ℕ → ℕ → Type 0
 MessageFits t k = (t < 2 ^ 16) × (k < 2 ^ 32)

@@ -253,7 +253,7 @@ fn judge_access(state: &TraceState, source: u16, access: &Access) -> Verdict
     if access.len == 0 || access.len > GREATEST_ACCESS {
         return Verdict::Refuse(Refusal::BadLength);
     }
-    if passes_end(access.at, u16::from(access.len)) {
+    if passes_end(access.at, u32::from(access.len)) {
         return Verdict::Refuse(Refusal::AddressEnd);
     }
     if !state.threads.is_alive(access.t) {
@@ -334,7 +334,7 @@ fn judge_room(state: &TraceState) -> Verdict
 }
 
 #[inline(always)]
-fn passes_end(at: u64, len: u16) -> bool
+fn passes_end(at: u64, len: u32) -> bool
     ensures { result ≡ rules.passes_end at len }
 {
     u128::from(at) + u128::from(len) > 18_446_744_073_709_551_616

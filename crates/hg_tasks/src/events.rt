@@ -43,7 +43,7 @@ fn put_message(verb: &str, t: u16, k: u32, text: &mut String) -> Result<(), Allo
 }
 
 /// Appends a line of a verb, a thread, and where memory begins and how long it is.
-fn put_range(verb: &str, t: u16, at: u64, len: u16, text: &mut String) -> Result<(), AllocError>
+fn put_range(verb: &str, t: u16, at: u64, len: u32, text: &mut String) -> Result<(), AllocError>
     ensures { OnOk result (string_bytes text.new ≡ string_bytes text.old ++ line verb.now (t ∷ at ∷ len ∷ [])) }
 {
     write!(text, "{verb} {t} {at} {len}\n")
@@ -59,8 +59,8 @@ fn put_event(event: Event, text: &mut String) -> Result<(), AllocError>
         Event::Lock { t, l } => put_pair("lock", t, l, text),
         Event::RdLock { t, l } => put_pair("rdlock", t, l, text),
         Event::Unlock { t, l } => put_pair("unlock", t, l, text),
-        Event::Read(Access { t, at, len }) => put_range("read", t, at, u16::from(len), text),
-        Event::Write(Access { t, at, len }) => put_range("write", t, at, u16::from(len), text),
+        Event::Read(Access { t, at, len }) => put_range("read", t, at, u32::from(len), text),
+        Event::Write(Access { t, at, len }) => put_range("write", t, at, u32::from(len), text),
         Event::Alloc(Block { t, at, len }) => put_range("alloc", t, at, len, text),
         Event::Free(Block { t, at, len }) => put_range("free", t, at, len, text),
         Event::Send { t, k } => put_message("send", t, k, text),

@@ -10,7 +10,7 @@ use hg_model::sets::NumberSet;
 use hg_model::word::HistoryItem;
 use std::alloc::{AllocError, Global};
 
-fn overlaps(at: u64, len: u16, word: u64) -> bool
+fn overlaps(at: u64, len: u32, word: u64) -> bool
     ensures { result ≡ history.overlaps at len word }
 {
     let start = 4 * u128::from(word);
@@ -44,14 +44,14 @@ pub fn history_of(alloc: Global, word: u64, past: &[Event]) -> Result<Vec<Histor
     let mut items = history_of(alloc, word, earlier)?;
     match *event {
         Event::Read(a) => {
-            if overlaps(a.at, u16::from(a.len), word) {
+            if overlaps(a.at, u32::from(a.len), word) {
                 let next = item(alloc, earlier, a.t, false)?;
                 items.push(next)?;
             }
             Ok(items)
         }
         Event::Write(a) => {
-            if overlaps(a.at, u16::from(a.len), word) {
+            if overlaps(a.at, u32::from(a.len), word) {
                 let next = item(alloc, earlier, a.t, true)?;
                 items.push(next)?;
             }

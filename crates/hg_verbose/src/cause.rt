@@ -41,10 +41,10 @@ fn message_of(event: Event) -> u32 {
 }
 
 /// The address and the length of an event that has them.
-fn place(event: Event) -> (u64, u16) {
+fn place(event: Event) -> (u64, u32) {
     match event {
-        Event::Read(a) => (a.at, u16::from(a.len)),
-        Event::Write(a) => (a.at, u16::from(a.len)),
+        Event::Read(a) => (a.at, u32::from(a.len)),
+        Event::Write(a) => (a.at, u32::from(a.len)),
         Event::Alloc(b) => (b.at, b.len),
         Event::Free(b) => (b.at, b.len),
         _ => (0, 0),

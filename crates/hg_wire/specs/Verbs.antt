@@ -24,7 +24,7 @@ abbrev pub access_widths : List ℕ
 access_widths = 16 ∷ 64 ∷ 8 ∷ []
 
 abbrev pub block_widths : List ℕ
-block_widths = 16 ∷ 64 ∷ 16 ∷ []
+block_widths = 16 ∷ 64 ∷ 32 ∷ []
 
 -- a thread and a message
 abbrev pub message_widths : List ℕ

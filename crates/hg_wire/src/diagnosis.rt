@@ -10,7 +10,7 @@ ghost use Rattle.hg_wire.specs.Verbs.{row_of};
 
 use crate::line::MOST_LINE_BYTES;
 use crate::number::{is_number, number_of_token};
-use crate::tokens::{byte_of_token, message_of_token, short_of_token, split_token};
+use crate::tokens::{byte_of_token, int_of_token, short_of_token, split_token};
 use crate::verb::Verb;
 
 /// Why a line is bad, and where. Its tokens are counted from 0 on, the verb first, with one space between each two.
@@ -83,7 +83,7 @@ fn is_operand(token: &[u8], bits: u8) -> bool
     match bits {
         8 => byte_of_token(token).is_some(),
         16 => short_of_token(token).is_some(),
-        32 => message_of_token(token).is_some(),
+        32 => int_of_token(token).is_some(),
         _ => number_of_token(token).is_some(),
     }
 }

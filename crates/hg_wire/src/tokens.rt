@@ -79,7 +79,7 @@ pub(crate) fn byte_of_token(token: &[u8]) -> Option<u8>
     Some(value as u8)
 }
 
-pub(crate) fn message_of_token(token: &[u8]) -> Option<u32>
+pub(crate) fn int_of_token(token: &[u8]) -> Option<u32>
     ensures { result ≡ operand_of 32 token.now }
 {
     let value = number_of_token(token)?;
@@ -117,7 +117,7 @@ fn block_of_tokens(tokens: Option<&[u8]>) -> Result<Block, LineFault>
     let (t, at, len) = three_tokens(tokens).ok_or(LineFault::Count)?;
     let t = short_of_token(t).ok_or(LineFault::Number)?;
     let at = number_of_token(at).ok_or(LineFault::Number)?;
-    let len = short_of_token(len).ok_or(LineFault::Number)?;
+    let len = int_of_token(len).ok_or(LineFault::Number)?;
     Ok(Block { t, at, len })
 }
 
@@ -127,7 +127,7 @@ fn message_of_tokens(tokens: Option<&[u8]>) -> Result<(u16, u32), LineFault>
 {
     let (t, k) = two_tokens(tokens).ok_or(LineFault::Count)?;
     let t = short_of_token(t).ok_or(LineFault::Number)?;
-    let k = message_of_token(k).ok_or(LineFault::Number)?;
+    let k = int_of_token(k).ok_or(LineFault::Number)?;
     Ok((t, k))
 }
 

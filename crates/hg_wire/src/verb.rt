@@ -70,7 +70,7 @@ impl Verb {
         match verb {
             Verb::Fork | Verb::Join | Verb::Lock | Verb::RdLock | Verb::Unlock => &[16, 16],
             Verb::Read | Verb::Write => &[16, 64, 8],
-            Verb::Alloc | Verb::Free => &[16, 64, 16],
+            Verb::Alloc | Verb::Free => &[16, 64, 32],
             Verb::Send | Verb::Recv => &[16, 32],
         }
     }
@@ -91,7 +91,7 @@ pub enum VerbKind {
     Pair { verb: Verb },
     /// `read` or `write`: a thread, an address and a length of 8 bits.
     Access { is_write: bool },
-    /// `alloc` or `free`: a thread, an address and a length of 16 bits.
+    /// `alloc` or `free`: a thread, an address and a length of 32 bits.
     Block { is_alloc: bool },
 }
 
@@ -296,7 +296,7 @@ pub fn pair_event(verb: Verb, first: u16, second: u64) -> Option<Event>
     }
 }
 
-/// The event of a verb that takes three operands, where they fit.
+/// The event of a verb that takes three operands, where they fit. A block's length comes in 16 bits here, as usual lines have it.
 #[inline(always)]
 pub fn sized_event(kind: VerbKind, t: u16, at: u64, len: u16) -> Option<Event>
     ensures { IfSome result (λ event. Makes (verb_of kind) (t ∷ at ∷ len ∷ []) event) }
@@ -327,7 +327,11 @@ fn access_event(is_write: bool, t: u16, at: u64, len: u16) -> Option<Event>
 fn block_event(is_alloc: bool, t: u16, at: u64, len: u16) -> Event
     ensures { Makes (verb_of (VerbKind.Block is_alloc)) (t ∷ at ∷ len ∷ []) result }
 {
-    let block = Block { t, at, len };
+    let block = Block {
+        t,
+        at,
+        len: u32::from(len),
+    };
     match is_alloc {
         true => Event::Alloc(block),
         false => Event::Free(block),

@@ -74,7 +74,7 @@ pub fn is_bare(look: Look) -> bool
 
 /// Whether `len` bytes from `at` on overlap a word.
 #[inline(always)]
-pub fn overlaps(at: u64, len: u16, word: u64) -> bool
+pub fn overlaps(at: u64, len: u32, word: u64) -> bool
     requires { word < 2 ^ 62 }
     ensures { result ≡ history.overlaps at len word }
 {
@@ -90,7 +90,7 @@ pub fn concerns(word: u64, event: &Event) -> bool
 {
     match event {
         Event::Read(access) | Event::Write(access) => {
-            overlaps(access.at, u16::from(access.len), word)
+            overlaps(access.at, u32::from(access.len), word)
         }
         Event::Alloc(block) | Event::Free(block) => overlaps(block.at, block.len, word),
         _ => false,

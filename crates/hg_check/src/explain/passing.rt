@@ -111,7 +111,7 @@ impl Explaining {
     {
         if overlaps(
             found.access.at,
-            u16::from(found.access.len),
+            u32::from(found.access.len),
             self.asked.word,
         ) {
             return self.pass_concerned(line, found);

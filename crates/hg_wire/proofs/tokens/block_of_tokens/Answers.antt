@@ -8,14 +8,14 @@ pub returns-in_err-t : goal.returns-in_err-t
 returns-in_err-t c =
     let p = err_from_is_err_and c.from_residual.result c.from_residual.ensures.1 in
     let q = ok_or_err _ _ _ _ _ c.in_err-t.ensures.value c.three_tokens.ensures in
-    rw p.1 (ap Err (p.2 ∙ q.0) ∙ sym (cond-false _ _ _ (q.1 16 64 16)))
+    rw p.1 (ap Err (p.2 ∙ q.0) ∙ sym (cond-false _ _ _ (q.1 16 64 32)))
 
 pub returns-in_err-t-2 : goal.returns-in_err-t-2
 returns-in_err-t-2 c =
     let p = err_from_is_err_and c.from_residual-in_err-t-2.result c.from_residual-in_err-t-2.ensures.1 in
     let three = ok_or_ok _ _ _ _ _ c.in_ok-t.ensures.value c.three_tokens.ensures in
     let t = none_of_err _ _ _ _ c.in_err-t-2.ensures.value c.short_of_token.ensures in
-    rw p.1 (ap Err (p.2 ∙ t.0) ∙ first_of_three 16 64 16 _ _ _ _ three t.1)
+    rw p.1 (ap Err (p.2 ∙ t.0) ∙ first_of_three 16 64 32 _ _ _ _ three t.1)
 
 pub returns-in_err-at : goal.returns-in_err-at
 returns-in_err-at c =
@@ -23,7 +23,7 @@ returns-in_err-at c =
     let three = ok_or_ok _ _ _ _ _ c.in_ok-t.ensures.value c.three_tokens.ensures in
     let t = some_of_ok _ _ _ _ c.in_ok-t-2.ensures.value c.short_of_token.ensures in
     let at = none_of_err _ _ _ _ c.in_err-at.ensures.value c.number_of_token.ensures in
-    rw p.1 (ap Err (p.2 ∙ at.0) ∙ second_of_three 16 64 16 _ _ _ _ _ three t at.1)
+    rw p.1 (ap Err (p.2 ∙ at.0) ∙ second_of_three 16 64 32 _ _ _ _ _ three t at.1)
 
 pub returns-in_err-len : goal.returns-in_err-len
 returns-in_err-len c =
@@ -31,13 +31,13 @@ returns-in_err-len c =
     let three = ok_or_ok _ _ _ _ _ c.in_ok-t.ensures.value c.three_tokens.ensures in
     let t = some_of_ok _ _ _ _ c.in_ok-t-2.ensures.value c.short_of_token.ensures in
     let at = some_of_ok _ _ _ _ c.in_ok-at.ensures.value c.number_of_token.ensures in
-    let len = none_of_err _ _ _ _ c.in_err-len.ensures.value c.short_of_token-2.ensures in
-    rw p.1 (ap Err (p.2 ∙ len.0) ∙ third_of_three 16 64 16 _ _ _ _ _ _ three t at len.1)
+    let len = none_of_err _ _ _ _ c.in_err-len.ensures.value c.int_of_token.ensures in
+    rw p.1 (ap Err (p.2 ∙ len.0) ∙ third_of_three 16 64 32 _ _ _ _ _ _ three t at len.1)
 
 pub returns : goal.returns
 returns c =
     let three = ok_or_ok _ _ _ _ _ c.in_ok-t.ensures.value c.three_tokens.ensures in
     let t = some_of_ok _ _ _ _ c.in_ok-t-2.ensures.value c.short_of_token.ensures in
     let at = some_of_ok _ _ _ _ c.in_ok-at.ensures.value c.number_of_token.ensures in
-    let len = some_of_ok _ _ _ _ c.in_ok-len.ensures.value c.short_of_token-2.ensures in
-    three_spelled 16 64 16 _ _ _ _ _ _ _ three t at len
+    let len = some_of_ok _ _ _ _ c.in_ok-len.ensures.value c.int_of_token.ensures in
+    three_spelled 16 64 32 _ _ _ _ _ _ _ three t at len

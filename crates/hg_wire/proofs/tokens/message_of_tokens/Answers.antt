@@ -22,12 +22,12 @@ returns-in_err-k c =
     let p = err_from_is_err_and c.from_residual-in_err-k.result c.from_residual-in_err-k.ensures.1 in
     let two = ok_or_ok _ _ _ _ _ c.in_ok-t.ensures.value c.two_tokens.ensures in
     let t = some_of_ok _ _ _ _ c.in_ok-t-2.ensures.value c.short_of_token.ensures in
-    let k = none_of_err _ _ _ _ c.in_err-k.ensures.value c.message_of_token.ensures in
+    let k = none_of_err _ _ _ _ c.in_err-k.ensures.value c.int_of_token.ensures in
     rw p.1 (ap Err (p.2 ∙ k.0) ∙ second_of_two 16 32 _ _ _ _ two t k.1)
 
 pub returns : goal.returns
 returns c =
     let two = ok_or_ok _ _ _ _ _ c.in_ok-t.ensures.value c.two_tokens.ensures in
     let t = some_of_ok _ _ _ _ c.in_ok-t-2.ensures.value c.short_of_token.ensures in
-    let k = some_of_ok _ _ _ _ c.in_ok-k.ensures.value c.message_of_token.ensures in
+    let k = some_of_ok _ _ _ _ c.in_ok-k.ensures.value c.int_of_token.ensures in
     two_spelled 16 32 _ _ _ _ _ two t k
