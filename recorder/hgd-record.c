@@ -33,7 +33,7 @@ enum {
     STATUS_NOT_FOUND = 127,
     STATUS_SIGNAL = 128,
     LONGEST_LINE = 128,
-    LONGEST_BLOCK = 1024,
+    LONGEST_BLOCK = 1 << 20,
     MOST_LINES_OF_A_STACK = 1024,
     /* so many milliseconds an event is held back for messages: who reads along is not to wait */
     LONGEST_HOLD = 2000,
@@ -331,7 +331,7 @@ static void put_pair(struct sink *sink, const char *verb, const struct event *ev
     end_line(sink, put_decimal(at, event->value));
 }
 
-/* `write 0 0x1000 4` and its like, in parts of at most 1,024 bytes. */
+/* `write 0 0x1000 4` and its like, in parts of at most 1,048,576 bytes. */
 static void put_range(struct sink *sink, const char *verb, const struct event *event)
 {
     uint64_t address = event->value, rest = event->length;

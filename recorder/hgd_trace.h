@@ -21,7 +21,7 @@
 #include <stdint.h>
 #include <stdio.h>
 
-enum { HGD_LONGEST_ACCESS = 64, HGD_LONGEST_BLOCK = 1024 };
+enum { HGD_LONGEST_ACCESS = 64, HGD_LONGEST_BLOCK = 1 << 20 };
 
 static FILE *hgd_trace_file;
 

@@ -18,7 +18,7 @@ from dataclasses import dataclass, field
 
 GREATEST_THREAD = 1023
 GREATEST_ACCESS = 64
-GREATEST_BLOCK = 1024
+GREATEST_BLOCK = 1 << 20
 MOST_HELD = 64
 MOST_SEGMENTS = 1 << 20
 MOST_SETS = 1 << 18
@@ -37,8 +37,8 @@ VERBS = {
     b"unlock": (0xFFFF, 0xFFFF),
     b"read": (0xFFFF, (1 << 64) - 1, 0xFF),
     b"write": (0xFFFF, (1 << 64) - 1, 0xFF),
-    b"alloc": (0xFFFF, (1 << 64) - 1, 0xFFFF),
-    b"free": (0xFFFF, (1 << 64) - 1, 0xFFFF),
+    b"alloc": (0xFFFF, (1 << 64) - 1, 0xFFFFFFFF),
+    b"free": (0xFFFF, (1 << 64) - 1, 0xFFFFFFFF),
     b"send": (0xFFFF, 0xFFFFFFFF),
     b"recv": (0xFFFF, 0xFFFFFFFF),
 }

@@ -16,7 +16,7 @@ const MOST_HELD: usize = 64;
 const MOST_SEGMENTS: usize = 1 << 20;
 const MOST_KEPT: usize = 65_536;
 const LONGEST_ACCESS: u64 = 64;
-const LONGEST_BLOCK: u64 = 1024;
+const LONGEST_BLOCK: u64 = 1 << 20;
 /// Stands in place of a predecessor that a segment does not have.
 pub const NONE: u32 = u32::MAX;
 

@@ -221,9 +221,9 @@ pub unsafe fn read_line<E: Events>(events: &mut E, at: *const u8) -> Step {
     } else if begins_with!(b"rdlock ") {
         hand_over!(two(at.add(7)), |t, l| events.read_lock(t, l))
     } else if begins_with!(b"alloc ") {
-        hand_over!(three(at.add(6), 0xFFFF), |t, a, n| events.renew(t, a, n))
+        hand_over!(three(at.add(6), 0xFFFF_FFFF), |t, a, n| events.renew(t, a, n))
     } else if begins_with!(b"free ") {
-        hand_over!(three(at.add(5), 0xFFFF), |t, a, n| events.renew(t, a, n))
+        hand_over!(three(at.add(5), 0xFFFF_FFFF), |t, a, n| events.renew(t, a, n))
     } else if begins_with!(b"fork ") {
         hand_over!(two(at.add(5)), |p, c| events.fork(p, c))
     } else if begins_with!(b"join ") {
