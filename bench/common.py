@@ -7,7 +7,7 @@ import sys
 from collections.abc import Sequence
 
 ROOT = os.path.dirname(os.path.dirname(os.path.abspath(__file__)))
-SHAPES = "private waves races scatter counters readers locksets thread-sets full-sets heap copies few queue".split()
+SHAPES = "private waves races scatter counters readers locksets thread-sets full-sets heap copies few queue large-blocks".split()
 
 
 def build(target: str) -> str:

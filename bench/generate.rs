@@ -332,6 +332,22 @@ fn heap(trace: &mut Trace, random: &mut Random) -> Step {
     }
 }
 
+/// 4 threads allocate blocks of 1 KiB to 1 MiB, mostly not aligned to pages, write to 16 places of each, and free them: one event clears
+/// up to 1,025 pages, most of them never touched.
+fn large_blocks(trace: &mut Trace, random: &mut Random) -> Step {
+    trace.fork_up_to(4)?;
+    loop {
+        let thread = random.below(4);
+        let at = HEAP + thread * APART + 16 * random.below(0x4000);
+        let length = 1024 << random.below(11);
+        trace.three("alloc", thread, at, length)?;
+        for _ in 0..16 {
+            trace.write(thread, at + random.below(length / 8) * 8, 8)?;
+        }
+        trace.three("free", thread, at, length)?;
+    }
+}
+
 /// 8 threads copy buffers by 64 bytes, one in four not aligned, and one in four to shared memory under
 /// a lock: 16 or 17 words an event, and pages that an access straddles.
 fn copies(trace: &mut Trace, random: &mut Random) -> Step {
@@ -473,6 +489,7 @@ fn write_trace(wanted: &Wanted) -> Result<(), String> {
         "thread-sets" => thread_sets(&mut trace, &mut random),
         "full-sets" => full_sets(&mut trace, &mut random),
         "heap" => heap(&mut trace, &mut random),
+        "large-blocks" => large_blocks(&mut trace, &mut random),
         "copies" => copies(&mut trace, &mut random),
         "few" => few(&mut trace, &mut random),
         "queue" => queue(&mut trace, &mut random),

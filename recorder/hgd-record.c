@@ -818,7 +818,7 @@ static void tell_counts(void)
         [COUNT_HOLDS_OVER_64] = "holds are not in the trace: the thread held 64 locks already",
         [COUNT_STALE_HOLDS] = "locks were made anew while they were held: they have new numbers",
         [COUNT_UNKNOWN_THREADS] = "threads are not in the trace: they were not begun by pthread_create",
-        [COUNT_LARGE_UNMAPS] = "areas above 16 MiB were unmapped: the trace does not free them",
+        [COUNT_LARGE_UNMAPS] = "areas above 1 GiB were unmapped: the trace does not free them",
         [COUNT_FORKED_PROCESSES] = "processes were forked: what they did is not in the trace",
         [COUNT_OTHER_PROGRAMS] = "other programs built with hgd-cc were started: they were not recorded",
         [COUNT_LOST_MESSAGES] = "hand-overs are not in the trace: there was no room for them",

@@ -13,8 +13,8 @@ extern void *__libc_realloc(void *block, size_t length);
 extern void *__libc_memalign(size_t alignment, size_t length);
 extern void __libc_free(void *block);
 
-/* Larger areas were most likely touched in part only, and would be a line for each 1,024 bytes. */
-static const size_t LARGEST_UNMAP = 16 << 20;
+/* An area is a line for each MiB. Larger ones were most likely touched in part only. */
+static const size_t LARGEST_UNMAP = 1 << 30;
 
 static void *made(void *block, uintptr_t code)
 {

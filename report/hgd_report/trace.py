@@ -5,7 +5,8 @@ import bisect
 import re
 from dataclasses import dataclass, field
 
-SPLIT = 1024
+# a block of more bytes is written in parts of so many
+SPLIT = 1 << 20
 
 # How many bytes of a file are read at once, and up to the end of a line.
 PIECE = 1 << 20
@@ -29,7 +30,7 @@ def number_of(text: str) -> int:
 
 @dataclass(frozen=True)
 class Block:
-    """Memory that an event made new, or gave back. The trace has parts of 1,024 bytes of a large one: they are one block here. One that
+    """Memory that an event made new, or gave back. The trace has parts of 1,048,576 bytes of a large one: they are one block here. One that
     was allocated before there was a second thread is no event: it has the event number 0 or less, and the words of its code."""
 
     kind: str
