@@ -201,7 +201,8 @@ class Trace:
             touch = Touch(self.events, line, verb, thread, self.segment_of[thread], sorted(self.held(thread, modes)), words)
             self.touches.append(touch)
             if verb in ("alloc", "free"):
-                self.ended += [(word, self.history.pop(word)) for word in words if word in self.history]
+                accessed = words if len(words) < len(self.history) else sorted(self.history)
+                self.ended += [(word, self.history.pop(word)) for word in accessed if word in words and word in self.history]
             else:
                 counted = self.held(thread, ("lock",)) if verb == "write" else self.held(thread)
                 it = Access(self.events, thread, self.segment_of[thread], verb == "write", counted)
