@@ -7,7 +7,7 @@ pub const LANGUAGE: &str =
   fork P C    join P C                   thread P starts thread C, or waits for its end
   lock T L    rdlock T L    unlock T L   thread T takes lock L alone or shared, or lets it go
   read T A N  write T A N                thread T reads or writes N bytes (1 to 64) at address A
-  alloc T A N free T A N                 thread T makes N bytes (1 to 1024) new memory, or frees them
+  alloc T A N free T A N                 thread T makes N bytes (1 to 1048576) new memory, or frees them
   send T K    recv T K                   thread T sends message K, or receives it
 
 One space stands before each number. Numbers are decimal, or hexadecimal after 0x. Threads are 0 to 1023, locks
