@@ -1,12 +1,13 @@
 -- A client's frame is determined by its body, which has a byte at least and MOST_FRAME_BYTES at most.
-use Rattle.std.proofs.Common.{◌≡◌, ℕ, ◌≤◌, ◌<◌, ◌^◌, List, [], ◌∷◌, ◌++◌, length, take, drop, refl, sym, ap, ◌∙◌, arith}
-use Rattle.std.specs.Int.{w16, w64, to_be_bytes, from_be_bytes}
+use Rattle.std.proofs.Common.{◌≡◌, ℕ, ◌≤◌, ◌<◌, ◌^◌, Bool, true, false, cond, List, [], ◌∷◌, ◌++◌, length, take, drop, refl, sym, ap, ◌∙◌, arith}
+use Rattle.std.specs.Int.{w16, w32, w64, to_be_bytes, from_be_bytes}
 use Rattle.std.proofs.lemmas.List.{append-nil}
 use Rattle.std.proofs.lemmas.Nat.{from_be_bytes-to_be_bytes_2, from_be_bytes-to_be_bytes_8}
 use Rattle.hg_protocol.specs.declared.frame.TheConstants.{MOST_FRAME_BYTES}
+use Rattle.hg_model.specs.declared.event.Block.{Block}
 use Rattle.hg_model.specs.declared.event.Event.{Event}
 use Rattle.hg_model.specs.declared.event.Event.TheVariants.{Fork, Join, Lock, RdLock, Unlock, Read, Write, Alloc, Free, Send, Recv}
-use Rattle.hg_records.specs.Records.{EventFits, event_text}
+use Rattle.hg_records.specs.Records.{EventFits, block_text, event_text, is_short}
 use Rattle.hg_records.proofs.RecordLemmas.{one_event}
 use Rattle.hg_protocol.specs.declared.frame.Frame.{Frame}
 use Rattle.hg_protocol.specs.declared.frame.Frame.TheVariants.{Hello, Event as Offer, Ask, Reports, Bye}
@@ -15,7 +16,12 @@ use Rattle.hg_protocol.specs.Frames.{FrameFits, body_text, numbered_text}
 pub narrow_frame : MOST_FRAME_BYTES < 2 ^ 16
 narrow_frame = omega arith
 
-few_bytes : (e : Event) → length (event_text e) ≤ 13
+-- either spelling of a block
+few_of_block : (is_short_one : Bool) (short long : ℕ) (b : Block) → length (cond is_short_one (short ∷ block_text w16 b) (long ∷ block_text w32 b)) ≤ 15
+few_of_block true short long b = omega arith
+few_of_block false short long b = omega arith
+
+few_bytes : (e : Event) → length (event_text e) ≤ 15
 few_bytes (Fork p c) = omega arith
 few_bytes (Join p c) = omega arith
 few_bytes (Lock t l) = omega arith
@@ -23,8 +29,8 @@ few_bytes (RdLock t l) = omega arith
 few_bytes (Unlock t l) = omega arith
 few_bytes (Read a) = omega arith
 few_bytes (Write a) = omega arith
-few_bytes (Alloc b) = omega arith
-few_bytes (Free b) = omega arith
+few_bytes (Alloc b) = few_of_block (is_short b.len) 8 12 b
+few_bytes (Free b) = few_of_block (is_short b.len) 9 13 b
 few_bytes (Send t k) = omega arith
 few_bytes (Recv t k) = omega arith
 

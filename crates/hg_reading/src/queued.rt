@@ -57,6 +57,8 @@ pub enum Queued {
     },
 }
 
+const _: () = prove!(size_of::<Queued>() == 16);
+
 impl Queued {
     /// The line of a read or a write.
     #[inline(always)]

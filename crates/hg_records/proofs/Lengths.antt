@@ -1,7 +1,7 @@
 -- Where bytes are long enough for their kind, they begin with a record, and nowhere else.
 use Rattle.std.proofs.Common.{◌≡◌, inl, inr, ℕ, ◌+◌, ◌-◌, ◌^◌, ◌<◌, ◌≤◌, false, cond, ltb, nat_eq, List, [], ◌∷◌, ◌++◌, length, get_or, take, drop, refl, sym, ap, subst, ◌∙◌, arith}
 use Rattle.std.specs.Int.{Width, w16, w32, w64, byte_len, from_be_bytes, to_be_bytes}
-use Rattle.std.proofs.lemmas.Bool.{eqb-true, le-ltb}
+use Rattle.std.proofs.lemmas.Bool.{cases_lt, eqb-true, le-ltb}
 use Rattle.std.proofs.lemmas.List.{length-append}
 use Rattle.hg_model.specs.declared.event.Access.{Access}
 use Rattle.hg_model.specs.declared.event.Block.{Block}
@@ -9,8 +9,8 @@ use Rattle.hg_model.specs.declared.event.Event.{Event}
 use Rattle.hg_model.specs.declared.event.Event.TheVariants.{Fork, Join, Lock, RdLock, Unlock, Read, Write, Alloc, Free, Send, Recv}
 use Rattle.hg_model.specs.declared.event.Named.{Named}
 use Rattle.hg_records.specs.Lengths.{HasRecord, length_by_kind}
-use Rattle.hg_records.specs.Records.{AccessFits, BlockFits, EventFits, access_text, block_text, event_text, record_text}
-use Rattle.hg_records.proofs.RecordLemmas.{IsBytes, IsBytes-rest, IsWide, Takes, Takes-then, chosen, number_takes, taken, wide16, wide32, wide64}
+use Rattle.hg_records.specs.Records.{AccessFits, BlockFits, EventFits, RecordFits, access_text, block_text, by_length, event_text, record_text}
+use Rattle.hg_records.proofs.RecordLemmas.{IsBytes, IsBytes-rest, IsWide, Takes, Takes-then, by_length_long, by_length_short, chosen, long_is, number_takes, short_is, taken, wide16, wide32, wide64}
 
 -- a number is there where there are bytes enough
 record Number (w : Width) (limit : ℕ) (bytes : List ℕ) : Type 0 where
@@ -73,6 +73,22 @@ head_given bytes fits long =
       left = omega (arith, source.left, number.left, kind.left, thread.left);
     }
 
+-- The upper half of a block's length of 32 bits, which stands at byte 21 of its record, is not 0.
+abbrev pub HasUpperHalf : List ℕ → Type 0
+HasUpperHalf bytes = 1 ≤ get_or bytes 21 0 + get_or bytes 22 0
+
+-- A number that fits 16 bits has no upper half, and any other has one.
+no_upper_half : (n : ℕ) → n < 2 ^ 16 → get_or (to_be_bytes w32 n) 0 0 + get_or (to_be_bytes w32 n) 1 0 ≡ 0
+no_upper_half n lt = omega (arith, lt)
+
+an_upper_half : (n : ℕ) → n < 2 ^ 32 → 2 ^ 16 ≤ n → 1 ≤ get_or (to_be_bytes w32 n) 0 0 + get_or (to_be_bytes w32 n) 1 0
+an_upper_half n lt le = omega (arith, lt, le)
+
+-- where a length of 32 bits stands, behind a name, a kind, a thread and an address
+upper_half_at : (s m k t at len : ℕ) (rest : List ℕ) → let bytes : List ℕ = to_be_bytes w16 s ++ (to_be_bytes w64 m ++ (k ∷ (to_be_bytes w16 t ++ (to_be_bytes w64 at ++ (to_be_bytes w32 len ++ rest))))) in
+    get_or bytes 21 0 + get_or bytes 22 0 ≡ get_or (to_be_bytes w32 len) 0 0 + get_or (to_be_bytes w32 len) 1 0
+upper_half_at s m k t at len rest = refl
+
 -- a record of these parts
 whole_given : (bytes : List ℕ) (h : Head bytes) (text rest : List ℕ) (e : Event) (len : ℕ) → Takes h.thread.rest text rest → EventFits e → event_text e ≡ h.kind.byte ∷ (to_be_bytes w16 h.thread.n ++ text) → length text + 13 ≡ len
     → HasRecord bytes (drop len bytes)
@@ -107,56 +123,98 @@ module _ (bytes : List ℕ) (h : Head bytes) where
       let takes = Takes-then h.thread.rest (to_be_bytes w64 at.n) at.rest (len.byte ∷ []) len.rest at.takes len.takes in
       whole_given bytes h (to_be_bytes w64 at.n ++ len.byte ∷ []) len.rest (make a) 22 takes (fits a (h.thread.small, (at.small, len.small))) (text a ∙ with_kind h.kind.byte k (access_text a) is) refl
 
-  block_given : (k : ℕ) (make : Block → Event) → h.kind.byte ≡ k → ((b : Block) → event_text (make b) ≡ k ∷ block_text b) → ((b : Block) → BlockFits b → EventFits (make b)) → 23 ≤ length bytes → HasRecord bytes (drop 23 bytes)
-  block_given k make is text fits long =
-      let at = number_given w64 (2 ^ 64) wide64 h.thread.rest h.thread.takes.rest_fits (omega (arith, long, h.left)) in
-      let len = number_given w16 (2 ^ 16) wide16 at.rest at.takes.rest_fits (omega (arith, long, h.left, at.left)) in
+  short_block_given : (short long : ℕ) (make : Block → Event) → h.kind.byte ≡ short → ((b : Block) → event_text (make b) ≡ by_length short long b) → ((b : Block) → BlockFits b → EventFits (make b)) → 23 ≤ length bytes → HasRecord bytes (drop 23 bytes)
+  short_block_given short long make is text fits enough =
+      let at = number_given w64 (2 ^ 64) wide64 h.thread.rest h.thread.takes.rest_fits (omega (arith, enough, h.left)) in
+      let len = number_given w16 (2 ^ 16) wide16 at.rest at.takes.rest_fits (omega (arith, enough, h.left, at.left)) in
       let b : Block = record { t = h.thread.n; at = at.n; len = len.n } in
       let takes = Takes-then h.thread.rest (to_be_bytes w64 at.n) at.rest (to_be_bytes w16 len.n) len.rest at.takes len.takes in
-      whole_given bytes h (to_be_bytes w64 at.n ++ to_be_bytes w16 len.n) len.rest (make b) 23 takes (fits b (h.thread.small, (at.small, len.small))) (text b ∙ with_kind h.kind.byte k (block_text b) is) refl
+      let spelled = text b ∙ (by_length_short short long b (short_is len.n len.small) ∙ with_kind h.kind.byte short (block_text w16 b) is) in
+      whole_given bytes h (to_be_bytes w64 at.n ++ to_be_bytes w16 len.n) len.rest (make b) 23 takes (fits b (h.thread.small, (at.small, omega (arith, len.small)))) spelled refl
 
-  by_kind : (kind len : ℕ) → h.kind.byte ≡ kind → length_by_kind kind ≡ len → 1 ≤ len → len ≤ length bytes → HasRecord bytes (drop len bytes)
+  long_block_given : (short long : ℕ) (make : Block → Event) → h.kind.byte ≡ long → ((b : Block) → event_text (make b) ≡ by_length short long b) → ((b : Block) → BlockFits b → EventFits (make b)) → HasUpperHalf bytes → 25 ≤ length bytes → HasRecord bytes (drop 25 bytes)
+  long_block_given short long make is text fits upper enough =
+      let at = number_given w64 (2 ^ 64) wide64 h.thread.rest h.thread.takes.rest_fits (omega (arith, enough, h.left)) in
+      let len = number_given w32 (2 ^ 32) wide32 at.rest at.takes.rest_fits (omega (arith, enough, h.left, at.left)) in
+      let b : Block = record { t = h.thread.n; at = at.n; len = len.n } in
+      let takes = Takes-then h.thread.rest (to_be_bytes w64 at.n) at.rest (to_be_bytes w32 len.n) len.rest at.takes len.takes in
+      let parts = h.source.takes.parts
+      ∙ ap (λ (xs : List ℕ). to_be_bytes w16 h.source.n ++ xs) (h.number.takes.parts
+      ∙ ap (λ (xs : List ℕ). to_be_bytes w64 h.number.n ++ xs) (h.kind.takes.parts
+      ∙ ap (λ (xs : List ℕ). h.kind.byte ∷ xs) (h.thread.takes.parts
+      ∙ ap (λ (xs : List ℕ). to_be_bytes w16 h.thread.n ++ xs) (at.takes.parts
+      ∙ ap (λ (xs : List ℕ). to_be_bytes w64 at.n ++ xs) len.takes.parts)))) in
+      let half = ap (λ (xs : List ℕ). get_or xs 21 0 + get_or xs 22 0) parts ∙ upper_half_at h.source.n h.number.n h.kind.byte h.thread.n at.n len.n len.rest in
+      let above : 2 ^ 16 ≤ len.n = elim (cases_lt len.n (2 ^ 16)) [
+        | inl lt ↦ absurd (omega (arith, upper, half, no_upper_half len.n lt))
+        | inr le ↦ le
+      ] in
+      let spelled = text b ∙ (by_length_long short long b (long_is len.n above) ∙ with_kind h.kind.byte long (block_text w32 b) is) in
+      whole_given bytes h (to_be_bytes w64 at.n ++ to_be_bytes w32 len.n) len.rest (make b) 25 takes (fits b (h.thread.small, (at.small, len.small))) spelled refl
+
+  by_kind : (kind len : ℕ) → h.kind.byte ≡ kind → length_by_kind kind ≡ len → 1 ≤ len → len ≤ length bytes → (len ≡ 25 → HasUpperHalf bytes) → HasRecord bytes (drop len bytes)
   unfolding length_by_kind
-  by_kind kind len same is some long =
-      one 1 15 _ (λ e. given w16 (2 ^ 16) wide16 1 Fork e (λ t n. refl) (λ t n f. f)) (
-      one 2 15 _ (λ e. given w16 (2 ^ 16) wide16 2 Join e (λ t n. refl) (λ t n f. f)) (
-      one 3 15 _ (λ e. given w16 (2 ^ 16) wide16 3 Lock e (λ t n. refl) (λ t n f. f)) (
-      one 4 15 _ (λ e. given w16 (2 ^ 16) wide16 4 RdLock e (λ t n. refl) (λ t n f. f)) (
-      one 5 15 _ (λ e. given w16 (2 ^ 16) wide16 5 Unlock e (λ t n. refl) (λ t n f. f)) (
-      one 6 22 _ (λ e. access_given 6 Read e (λ a. refl) (λ a f. f)) (
-      one 7 22 _ (λ e. access_given 7 Write e (λ a. refl) (λ a f. f)) (
-      one 8 23 _ (λ e. block_given 8 Alloc e (λ b. refl) (λ b f. f)) (
-      one 9 23 _ (λ e. block_given 9 Free e (λ b. refl) (λ b f. f)) (
-      one 10 17 _ (λ e. given w32 (2 ^ 32) wide32 10 Send e (λ t n. refl) (λ t n f. f)) (
-      one 11 17 _ (λ e. given w32 (2 ^ 32) wide32 11 Recv e (λ t n. refl) (λ t n f. f)) (
-      λ none. absurd (omega (arith, none, some))))))))))))) is
+  by_kind kind len same is some long upper =
+      one 1 15 _ (λ e sized. given w16 (2 ^ 16) wide16 1 Fork e (λ t n. refl) (λ t n f. f)) (
+      one 2 15 _ (λ e sized. given w16 (2 ^ 16) wide16 2 Join e (λ t n. refl) (λ t n f. f)) (
+      one 3 15 _ (λ e sized. given w16 (2 ^ 16) wide16 3 Lock e (λ t n. refl) (λ t n f. f)) (
+      one 4 15 _ (λ e sized. given w16 (2 ^ 16) wide16 4 RdLock e (λ t n. refl) (λ t n f. f)) (
+      one 5 15 _ (λ e sized. given w16 (2 ^ 16) wide16 5 Unlock e (λ t n. refl) (λ t n f. f)) (
+      one 6 22 _ (λ e sized. access_given 6 Read e (λ a. refl) (λ a f. f)) (
+      one 7 22 _ (λ e sized. access_given 7 Write e (λ a. refl) (λ a f. f)) (
+      one 8 23 _ (λ e sized. short_block_given 8 12 Alloc e (λ b. refl) (λ b f. f)) (
+      one 9 23 _ (λ e sized. short_block_given 9 13 Free e (λ b. refl) (λ b f. f)) (
+      one 10 17 _ (λ e sized. given w32 (2 ^ 32) wide32 10 Send e (λ t n. refl) (λ t n f. f)) (
+      one 11 17 _ (λ e sized. given w32 (2 ^ 32) wide32 11 Recv e (λ t n. refl) (λ t n f. f)) (
+      one 12 25 _ (λ e sized. long_block_given 8 12 Alloc e (λ b. refl) (λ b f. f) (upper (sym sized))) (
+      one 13 25 _ (λ e sized. long_block_given 9 13 Free e (λ b. refl) (λ b f. f) (upper (sym sized))) (
+      λ none. absurd (omega (arith, none, some))))))))))))))) is
     where
-      one : (k size other : ℕ) → (h.kind.byte ≡ k → size ≤ length bytes → HasRecord bytes (drop size bytes)) → (other ≡ len → HasRecord bytes (drop len bytes)) → cond (nat_eq kind k) size other ≡ len → HasRecord bytes (drop len bytes)
+      one : (k size other : ℕ) → (h.kind.byte ≡ k → size ≡ len → size ≤ length bytes → HasRecord bytes (drop size bytes)) → (other ≡ len → HasRecord bytes (drop len bytes)) → cond (nat_eq kind k) size other ≡ len → HasRecord bytes (drop len bytes)
       one k size other there later e =
           elim (chosen (nat_eq kind k) size other len e) [
-            | inl is ↦ subst (λ (n : ℕ). HasRecord bytes (drop n bytes)) is.1 (there (same ∙ eqb-true kind k is.0) (omega (arith, is.1, long)))
+            | inl is ↦ subst (λ (n : ℕ). HasRecord bytes (drop n bytes)) is.1 (there (same ∙ eqb-true kind k is.0) is.1 (omega (arith, is.1, long)))
             | inr differs ↦ later differs.1
           ]
 
-pub long_enough : (bytes : List ℕ) (len : ℕ) → IsBytes bytes → 15 ≤ length bytes → length_by_kind (get_or bytes 10 0) ≡ len → 1 ≤ len → len ≤ length bytes → HasRecord bytes (drop len bytes)
-long_enough bytes len fits long is some enough =
+pub long_enough : (bytes : List ℕ) (len : ℕ) → IsBytes bytes → 15 ≤ length bytes → length_by_kind (get_or bytes 10 0) ≡ len → 1 ≤ len → len ≤ length bytes → (len ≡ 25 → HasUpperHalf bytes) → HasRecord bytes (drop len bytes)
+long_enough bytes len fits long is some enough upper =
     let h = head_given bytes fits long in
-    by_kind bytes h (get_or bytes 10 0) len (sym h.is_kind) is some enough
+    by_kind bytes h (get_or bytes 10 0) len (sym h.is_kind) is some enough upper
 
 -- ---- and a record has the length of its kind
 
-pub record_long : (n : Named) (rest : List ℕ) → (15 ≤ length (record_text n ++ rest)) × ((1 ≤ length_by_kind (get_or (record_text n ++ rest) 10 0)) × (length_by_kind (get_or (record_text n ++ rest) 10 0) ≤ length (record_text n ++ rest)))
+-- what the bytes of a record have by the kind at byte 10
+pub record IsLongEnough (text : List ℕ) : Type 0 where
+  pub head : 15 ≤ length text
+  pub some : 1 ≤ length_by_kind (get_or text 10 0)
+  pub whole : length_by_kind (get_or text 10 0) ≤ length text
+  pub upper : length_by_kind (get_or text 10 0) ≡ 25 → HasUpperHalf text
+
+pub record_long : (n : Named) (rest : List ℕ) → RecordFits n → IsLongEnough (record_text n ++ rest)
 unfolding length_by_kind
-record_long n rest = of_event n.event where
-  of_event : (e : Event) → let text : List ℕ = (to_be_bytes w16 n.source ++ (to_be_bytes w64 n.number ++ event_text e)) ++ rest in (15 ≤ length text) × ((1 ≤ length_by_kind (get_or text 10 0)) × (length_by_kind (get_or text 10 0) ≤ length text))
-  of_event (Fork p c) = (omega arith, (omega arith, omega arith))
-  of_event (Join p c) = (omega arith, (omega arith, omega arith))
-  of_event (Lock t l) = (omega arith, (omega arith, omega arith))
-  of_event (RdLock t l) = (omega arith, (omega arith, omega arith))
-  of_event (Unlock t l) = (omega arith, (omega arith, omega arith))
-  of_event (Read a) = (omega arith, (omega arith, omega arith))
-  of_event (Write a) = (omega arith, (omega arith, omega arith))
-  of_event (Alloc b) = (omega arith, (omega arith, omega arith))
-  of_event (Free b) = (omega arith, (omega arith, omega arith))
-  of_event (Send t k) = (omega arith, (omega arith, omega arith))
-  of_event (Recv t k) = (omega arith, (omega arith, omega arith))
+record_long n rest fits = of_event n.event fits.1.1 where
+  spelled : List ℕ → List ℕ
+  spelled event = (to_be_bytes w16 n.source ++ (to_be_bytes w64 n.number ++ event)) ++ rest
+
+  of_block : (short long : ℕ) (b : Block) → BlockFits b → length_by_kind short ≡ 23 → length_by_kind long ≡ 25 → IsLongEnough (spelled (by_length short long b))
+  of_block short long b fits as_short as_long =
+      elim (cases_lt b.len (2 ^ 16)) [
+        | inl lt ↦ subst (λ (event : List ℕ). IsLongEnough (spelled event)) (sym (by_length_short short long b (short_is b.len lt)))
+            (record { head = omega arith; some = omega (arith, as_short); whole = omega (arith, as_short); upper = λ is. absurd (omega (arith, as_short, is)) })
+        | inr le ↦ subst (λ (event : List ℕ). IsLongEnough (spelled event)) (sym (by_length_long short long b (long_is b.len le)))
+            (record { head = omega arith; some = omega (arith, as_long); whole = omega (arith, as_long); upper = λ is. an_upper_half b.len fits.1.1 le })
+      ]
+
+  of_event : (e : Event) → EventFits e → IsLongEnough (spelled (event_text e))
+  of_event (Fork p c) fits = record { head = omega arith; some = omega arith; whole = omega arith; upper = λ is. absurd (omega (arith, is)) }
+  of_event (Join p c) fits = record { head = omega arith; some = omega arith; whole = omega arith; upper = λ is. absurd (omega (arith, is)) }
+  of_event (Lock t l) fits = record { head = omega arith; some = omega arith; whole = omega arith; upper = λ is. absurd (omega (arith, is)) }
+  of_event (RdLock t l) fits = record { head = omega arith; some = omega arith; whole = omega arith; upper = λ is. absurd (omega (arith, is)) }
+  of_event (Unlock t l) fits = record { head = omega arith; some = omega arith; whole = omega arith; upper = λ is. absurd (omega (arith, is)) }
+  of_event (Read a) fits = record { head = omega arith; some = omega arith; whole = omega arith; upper = λ is. absurd (omega (arith, is)) }
+  of_event (Write a) fits = record { head = omega arith; some = omega arith; whole = omega arith; upper = λ is. absurd (omega (arith, is)) }
+  of_event (Alloc b) fits = of_block 8 12 b fits refl refl
+  of_event (Free b) fits = of_block 9 13 b fits refl refl
+  of_event (Send t k) fits = record { head = omega arith; some = omega arith; whole = omega arith; upper = λ is. absurd (omega (arith, is)) }
+  of_event (Recv t k) fits = record { head = omega arith; some = omega arith; whole = omega arith; upper = λ is. absurd (omega (arith, is)) }

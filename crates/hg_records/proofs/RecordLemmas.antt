@@ -2,7 +2,7 @@
 use Rattle.std.proofs.Common.{◌≡◌, ℕ, suc, ◌+◌, ◌-◌, ◌^◌, ◌<◌, ◌≤◌, Bool, true, false, cond, ltb, nat_eq, List, [], ◌∷◌, ◌++◌, length, get_or, take, drop, Option, Some, None, refl, sym, ap, subst, ◌∙◌, append_assoc, arith, inl, inr, ◌⊎◌}
 use Rattle.std.specs.Int.{Width, w16, w32, w64, byte_len, from_be_bytes, to_be_bytes}
 use Rattle.std.specs.List.{flat_map, AllByRecursion}
-use Rattle.std.proofs.lemmas.Bool.{cases_lt, eqb-true, ltb-false, le-ltb}
+use Rattle.std.proofs.lemmas.Bool.{cases_lt, eqb-true, lt-ltb, ltb-false, le-ltb}
 use Rattle.std.proofs.lemmas.List.{take_at, drop_at, take-append-drop, length-append, length-take, get_or-drop, get_or-take, get_or_past}
 use Rattle.std.proofs.lemmas.Nat.{be_bytes_2, be_bytes_4, be_bytes_8, from_be_bytes-to_be_bytes_2, from_be_bytes-to_be_bytes_4, from_be_bytes-to_be_bytes_8}
 use Rattle.hg_model.specs.declared.event.Access.{Access}
@@ -10,8 +10,8 @@ use Rattle.hg_model.specs.declared.event.Block.{Block}
 use Rattle.hg_model.specs.declared.event.Event.{Event}
 use Rattle.hg_model.specs.declared.event.Event.TheVariants.{Fork, Join, Lock, RdLock, Unlock, Read, Write, Alloc, Free, Send, Recv}
 use Rattle.hg_model.specs.declared.event.Named.{Named}
-use Rattle.hg_records.specs.Records.{AccessFits, BlockFits, EventFits, RecordFits, access_text, block_text, event_text, record_text}
-use Rattle.hg_records.specs.RecordReading.{◌>>=◌, access_at, block_at, byte_at, event_at, making, number_at, operands_at, record_at}
+use Rattle.hg_records.specs.Records.{AccessFits, BlockFits, EventFits, RecordFits, access_text, block_text, by_length, event_text, is_short, record_text}
+use Rattle.hg_records.specs.RecordReading.{◌>>=◌, access_at, block_at, byte_at, event_at, long_block_at, making, number_at, operands_at, record_at}
 
 abbrev pub IsBytes : List ℕ → Type 0
 IsBytes bytes = (i : ℕ) → get_or bytes i 0 < 256
@@ -133,28 +133,57 @@ access_again a rest fits =
     ap (λ bytes. access_at a.t bytes) (append_assoc (to_be_bytes w64 a.at) (a.len ∷ []) rest)
     ∙ ap (λ r. r >>= λ at. byte_at at.1 >>= λ len. Some (record { t = a.t; at = at.0; len = len.0 }, len.1)) (number_again w64 (2 ^ 64) wide64 a.at (a.len ∷ rest) fits.1.0)
 
-block_takes : (t : ℕ) (bytes : List ℕ) (b : Block) (rest : List ℕ) → IsBytes bytes → t < 2 ^ 16 → block_at t bytes ≡ Some (b, rest)
-    → (b.t ≡ t) × Takes bytes (to_be_bytes w64 b.at ++ to_be_bytes w16 b.len) rest × BlockFits b
+block_takes : (w : Width) (limit : ℕ) (wide : IsWide w limit) → limit ≤ 2 ^ 32 → (t : ℕ) (bytes : List ℕ) (b : Block) (rest : List ℕ) → IsBytes bytes → t < 2 ^ 16 → block_at w t bytes ≡ Some (b, rest)
+    → (b.t ≡ t) × Takes bytes (to_be_bytes w64 b.at ++ to_be_bytes w b.len) rest × BlockFits b × (b.len < limit)
 unfolding block_at
-block_takes t bytes b rest fits small e =
-    let first = bind_some (number_at w64 bytes) (λ at. number_at w16 at.1 >>= λ len. Some (record { t = t; at = at.0; len = len.0 }, len.1)) (b, rest) e in
+block_takes w limit wide within t bytes b rest fits small e =
+    let first = bind_some (number_at w64 bytes) (λ at. number_at w at.1 >>= λ len. Some (record { t = t; at = at.0; len = len.0 }, len.1)) (b, rest) e in
     let at = first.0 in
     let one = number_takes w64 (2 ^ 64) wide64 bytes at.0 at.1 fits first.1 in
-    let second = bind_some (number_at w16 at.1) (λ len. Some (record { t = t; at = at.0; len = len.0 }, len.1)) (b, rest) first.2 in
+    let second = bind_some (number_at w at.1) (λ len. Some (record { t = t; at = at.0; len = len.0 }, len.1)) (b, rest) first.2 in
     let len = second.0 in
-    let two = number_takes w16 (2 ^ 16) wide16 at.1 len.0 len.1 one.0.rest_fits second.1 in
+    let two = number_takes w limit wide at.1 len.0 len.1 one.0.rest_fits second.1 in
     let made : Block = record { t = t; at = at.0; len = len.0 } in
-    let both : Takes bytes (to_be_bytes w64 at.0 ++ to_be_bytes w16 len.0) len.1 = Takes-then bytes (to_be_bytes w64 at.0) at.1 (to_be_bytes w16 len.0) len.1 one.0 two.0 in
-    let fits_all : BlockFits made = (small, (one.1, two.1)) in
+    let both : Takes bytes (to_be_bytes w64 at.0 ++ to_be_bytes w len.0) len.1 = Takes-then bytes (to_be_bytes w64 at.0) at.1 (to_be_bytes w len.0) len.1 one.0 two.0 in
+    let fits_all : BlockFits made = (small, (one.1, omega (arith, two.1, within))) in
     let is : (made, len.1) ≡ (b, rest) = some_is (made, len.1) (b, rest) second.2 in
-    subst (λ (p : Block × List ℕ). (p.0.t ≡ t) × Takes bytes (to_be_bytes w64 p.0.at ++ to_be_bytes w16 p.0.len) p.1 × BlockFits p.0) is (refl, both, fits_all)
+    subst (λ (p : Block × List ℕ). (p.0.t ≡ t) × Takes bytes (to_be_bytes w64 p.0.at ++ to_be_bytes w p.0.len) p.1 × BlockFits p.0 × (p.0.len < limit)) is (refl, both, fits_all, two.1)
 
-block_again : (b : Block) (rest : List ℕ) → BlockFits b → block_at b.t ((to_be_bytes w64 b.at ++ to_be_bytes w16 b.len) ++ rest) ≡ Some (b, rest)
+block_again : (w : Width) (limit : ℕ) (wide : IsWide w limit) (b : Block) (rest : List ℕ) → BlockFits b → b.len < limit → block_at w b.t ((to_be_bytes w64 b.at ++ to_be_bytes w b.len) ++ rest) ≡ Some (b, rest)
 unfolding block_at
-block_again b rest fits =
-    ap (λ bytes. block_at b.t bytes) (append_assoc (to_be_bytes w64 b.at) (to_be_bytes w16 b.len) rest)
-    ∙ (ap (λ r. r >>= λ at. number_at w16 at.1 >>= λ len. Some (record { t = b.t; at = at.0; len = len.0 }, len.1)) (number_again w64 (2 ^ 64) wide64 b.at (to_be_bytes w16 b.len ++ rest) fits.1.0)
-    ∙ ap (λ r. r >>= λ len. Some (record { t = b.t; at = b.at; len = len.0 }, len.1)) (number_again w16 (2 ^ 16) wide16 b.len rest fits.1.1))
+block_again w limit wide b rest fits lt =
+    ap (λ bytes. block_at w b.t bytes) (append_assoc (to_be_bytes w64 b.at) (to_be_bytes w b.len) rest)
+    ∙ (ap (λ r. r >>= λ at. number_at w at.1 >>= λ len. Some (record { t = b.t; at = at.0; len = len.0 }, len.1)) (number_again w64 (2 ^ 64) wide64 b.at (to_be_bytes w b.len ++ rest) fits.1.0)
+    ∙ ap (λ r. r >>= λ len. Some (record { t = b.t; at = b.at; len = len.0 }, len.1)) (number_again w limit wide b.len rest lt))
+
+-- a length that fits 16 bits, and one that does not
+pub short_is : (len : ℕ) → len < 2 ^ 16 → is_short len ≡ true
+short_is len lt = lt-ltb len (2 ^ 16) lt
+
+pub long_is : (len : ℕ) → 2 ^ 16 ≤ len → is_short len ≡ false
+long_is len le = le-ltb len (2 ^ 16) le
+
+long_block_takes : (t : ℕ) (bytes : List ℕ) (b : Block) (rest : List ℕ) → IsBytes bytes → t < 2 ^ 16 → long_block_at t bytes ≡ Some (b, rest)
+    → (b.t ≡ t) × Takes bytes (to_be_bytes w64 b.at ++ to_be_bytes w32 b.len) rest × BlockFits b × (is_short b.len ≡ false)
+unfolding long_block_at
+long_block_takes t bytes b rest fits small e =
+    let read = bind_some (block_at w32 t bytes) (λ block. cond (is_short block.0.len) None (Some block)) (b, rest) e in
+    let long = guard_some (is_short read.0.0.len) read.0 (b, rest) read.2 in
+    let takes = block_takes w32 (2 ^ 32) wide32 (omega arith) t bytes read.0.0 read.0.1 fits small read.1 in
+    subst (λ (p : Block × List ℕ). (p.0.t ≡ t) × Takes bytes (to_be_bytes w64 p.0.at ++ to_be_bytes w32 p.0.len) p.1 × BlockFits p.0 × (is_short p.0.len ≡ false)) long.1 (takes.0, takes.1, takes.2, long.0)
+
+long_block_again : (b : Block) (rest : List ℕ) → BlockFits b → 2 ^ 16 ≤ b.len → long_block_at b.t ((to_be_bytes w64 b.at ++ to_be_bytes w32 b.len) ++ rest) ≡ Some (b, rest)
+unfolding long_block_at
+long_block_again b rest fits le =
+    ap (λ r. r >>= λ block. cond (is_short block.0.len) None (Some block)) (block_again w32 (2 ^ 32) wide32 b rest fits fits.1.1)
+    ∙ ap (λ short. cond short None (Some (b, rest))) (long_is b.len le)
+
+-- the two spellings of a block
+pub by_length_short : (short long : ℕ) (b : Block) → is_short b.len ≡ true → by_length short long b ≡ short ∷ block_text w16 b
+by_length_short short long b is = ap (λ short_one. cond short_one (short ∷ block_text w16 b) (long ∷ block_text w32 b)) is
+
+pub by_length_long : (short long : ℕ) (b : Block) → is_short b.len ≡ false → by_length short long b ≡ long ∷ block_text w32 b
+by_length_long short long b is = ap (λ short_one. cond short_one (short ∷ block_text w16 b) (long ∷ block_text w32 b)) is
 
 -- ---- events
 
@@ -202,19 +231,27 @@ access_case kind k t make bytes e rest is text fits bytes_fit small h =
       is = text from.0 ∙ (with_kind kind k (access_text from.0) is ∙ ap (λ (n : ℕ). kind ∷ (to_be_bytes w16 n ++ operands)) one.0);
     })
 
-block_case : (kind k t : ℕ) (make : Block → Event) (bytes : List ℕ) (e : Event) (rest : List ℕ) → kind ≡ k → ((b : Block) → event_text (make b) ≡ k ∷ block_text b) → ((b : Block) → BlockFits b → EventFits (make b))
-    → IsBytes bytes → t < 2 ^ 16 → making make (block_at t bytes) ≡ Some (e, rest) → Operands kind t bytes e rest
-block_case kind k t make bytes e rest is text fits bytes_fit small h =
-    let from = made_from make (block_at t bytes) e rest h in
-    let one = block_takes t bytes from.0 rest bytes_fit small from.1 in
-    let operands = to_be_bytes w64 from.0.at ++ to_be_bytes w16 from.0.len in
+-- a block that was taken, in either spelling
+block_operands : (w : Width) (kind k t : ℕ) (e : Event) (bytes : List ℕ) (b : Block) (rest : List ℕ) → kind ≡ k → event_text e ≡ k ∷ block_text w b → EventFits e → b.t ≡ t → Takes bytes (to_be_bytes w64 b.at ++ to_be_bytes w b.len) rest → Operands kind t bytes e rest
+block_operands w kind k t e bytes b rest is text fits same takes =
+    let operands = to_be_bytes w64 b.at ++ to_be_bytes w b.len in
+    record { text = operands; takes = takes; fits = fits; is = text ∙ (with_kind kind k (block_text w b) is ∙ ap (λ (n : ℕ). kind ∷ (to_be_bytes w16 n ++ operands)) same) }
+
+short_block_case : (kind short long t : ℕ) (make : Block → Event) (bytes : List ℕ) (e : Event) (rest : List ℕ) → kind ≡ short → ((b : Block) → event_text (make b) ≡ by_length short long b) → ((b : Block) → BlockFits b → EventFits (make b))
+    → IsBytes bytes → t < 2 ^ 16 → making make (block_at w16 t bytes) ≡ Some (e, rest) → Operands kind t bytes e rest
+short_block_case kind short long t make bytes e rest is text fits bytes_fit small h =
+    let from = made_from make (block_at w16 t bytes) e rest h in
+    let one = block_takes w16 (2 ^ 16) wide16 (omega arith) t bytes from.0 rest bytes_fit small from.1 in
     subst (λ (x : Event). Operands kind t bytes x rest) from.2
-    (record {
-      text = operands;
-      takes = one.1;
-      fits = fits from.0 one.2;
-      is = text from.0 ∙ (with_kind kind k (block_text from.0) is ∙ ap (λ (n : ℕ). kind ∷ (to_be_bytes w16 n ++ operands)) one.0);
-    })
+    (block_operands w16 kind short t (make from.0) bytes from.0 rest is (text from.0 ∙ by_length_short short long from.0 (short_is from.0.len one.3)) (fits from.0 one.2) one.0 one.1)
+
+long_block_case : (kind short long t : ℕ) (make : Block → Event) (bytes : List ℕ) (e : Event) (rest : List ℕ) → kind ≡ long → ((b : Block) → event_text (make b) ≡ by_length short long b) → ((b : Block) → BlockFits b → EventFits (make b))
+    → IsBytes bytes → t < 2 ^ 16 → making make (long_block_at t bytes) ≡ Some (e, rest) → Operands kind t bytes e rest
+long_block_case kind short long t make bytes e rest is text fits bytes_fit small h =
+    let from = made_from make (long_block_at t bytes) e rest h in
+    let one = long_block_takes t bytes from.0 rest bytes_fit small from.1 in
+    subst (λ (x : Event). Operands kind t bytes x rest) from.2
+    (block_operands w32 kind long t (make from.0) bytes from.0 rest is (text from.0 ∙ by_length_long short long from.0 one.3) (fits from.0 one.2) one.0 one.1)
 
 operands_takes : (kind t : ℕ) (bytes : List ℕ) (e : Event) (rest : List ℕ) → IsBytes bytes → t < 2 ^ 16 → operands_at kind t bytes ≡ Some (e, rest) → Operands kind t bytes e rest
 unfolding operands_at
@@ -226,11 +263,13 @@ operands_takes kind t bytes e rest fits small h =
     number w16 (2 ^ 16) wide16 5 (λ l. Unlock t l) _ (λ n. refl) (λ n lt. (small, lt)) (
     access 6 Read _ (λ a. refl) (λ a f. f) (
     access 7 Write _ (λ a. refl) (λ a f. f) (
-    block 8 Alloc _ (λ b. refl) (λ b f. f) (
-    block 9 Free _ (λ b. refl) (λ b f. f) (
+    short_block 8 12 Alloc _ (λ b. refl) (λ b f. f) (
+    short_block 9 13 Free _ (λ b. refl) (λ b f. f) (
     number w32 (2 ^ 32) wide32 10 (λ k. Send t k) _ (λ n. refl) (λ n lt. (small, lt)) (
     number w32 (2 ^ 32) wide32 11 (λ k. Recv t k) _ (λ n. refl) (λ n lt. (small, lt)) (
-    λ none. absurd cc))))))))))) h
+    long_block 8 12 Alloc _ (λ b. refl) (λ b f. f) (
+    long_block 9 13 Free _ (λ b. refl) (λ b f. f) (
+    λ none. absurd cc))))))))))))) h
   where
     number : (w : Width) (limit : ℕ) (wide : IsWide w limit) (k : ℕ) (make : ℕ → Event) (other : Option (Event × List ℕ)) → ((n : ℕ) → event_text (make n) ≡ k ∷ (to_be_bytes w16 t ++ to_be_bytes w n)) → ((n : ℕ) → n < limit → EventFits (make n))
         → (other ≡ Some (e, rest) → Operands kind t bytes e rest) → cond (nat_eq kind k) (making make (number_at w bytes)) other ≡ Some (e, rest) → Operands kind t bytes e rest
@@ -248,11 +287,19 @@ operands_takes kind t bytes e rest fits small h =
           | inr differs ↦ later differs.1
         ]
 
-    block : (k : ℕ) (make : Block → Event) (other : Option (Event × List ℕ)) → ((b : Block) → event_text (make b) ≡ k ∷ block_text b) → ((b : Block) → BlockFits b → EventFits (make b))
-        → (other ≡ Some (e, rest) → Operands kind t bytes e rest) → cond (nat_eq kind k) (making make (block_at t bytes)) other ≡ Some (e, rest) → Operands kind t bytes e rest
-    block k make other text fit later h =
-        elim (chosen (nat_eq kind k) (making make (block_at t bytes)) other (Some (e, rest)) h) [
-          | inl same ↦ block_case kind k t make bytes e rest (eqb-true kind k same.0) text fit fits small same.1
+    short_block : (short long : ℕ) (make : Block → Event) (other : Option (Event × List ℕ)) → ((b : Block) → event_text (make b) ≡ by_length short long b) → ((b : Block) → BlockFits b → EventFits (make b))
+        → (other ≡ Some (e, rest) → Operands kind t bytes e rest) → cond (nat_eq kind short) (making make (block_at w16 t bytes)) other ≡ Some (e, rest) → Operands kind t bytes e rest
+    short_block short long make other text fit later h =
+        elim (chosen (nat_eq kind short) (making make (block_at w16 t bytes)) other (Some (e, rest)) h) [
+          | inl same ↦ short_block_case kind short long t make bytes e rest (eqb-true kind short same.0) text fit fits small same.1
+          | inr differs ↦ later differs.1
+        ]
+
+    long_block : (short long : ℕ) (make : Block → Event) (other : Option (Event × List ℕ)) → ((b : Block) → event_text (make b) ≡ by_length short long b) → ((b : Block) → BlockFits b → EventFits (make b))
+        → (other ≡ Some (e, rest) → Operands kind t bytes e rest) → cond (nat_eq kind long) (making make (long_block_at t bytes)) other ≡ Some (e, rest) → Operands kind t bytes e rest
+    long_block short long make other text fit later h =
+        elim (chosen (nat_eq kind long) (making make (long_block_at t bytes)) other (Some (e, rest)) h) [
+          | inl same ↦ long_block_case kind short long t make bytes e rest (eqb-true kind long same.0) text fit fits small same.1
           | inr differs ↦ later differs.1
         ]
 
@@ -306,6 +353,21 @@ pair_again = made_again w16 (2 ^ 16) wide16
 message_again : (make : ℕ → Event) (n : ℕ) (rest : List ℕ) → n < 2 ^ 32 → making make (number_at w32 (to_be_bytes w32 n ++ rest)) ≡ Some (make n, rest)
 message_again = made_again w32 (2 ^ 32) wide32
 
+-- A block is read again in either spelling, where the kinds of the two are read so.
+blocks_again : (short long : ℕ) (make : Block → Event) (b : Block) (rest : List ℕ) → BlockFits b → ((bytes : List ℕ) → operands_at short b.t bytes ≡ making make (block_at w16 b.t bytes)) → ((bytes : List ℕ) → operands_at long b.t bytes ≡ making make (long_block_at b.t bytes))
+    → event_at (by_length short long b ++ rest) ≡ Some (make b, rest)
+blocks_again short long make b rest fits as_short as_long =
+    elim (cases_lt b.len (2 ^ 16)) [
+      | inl lt ↦
+          let text = to_be_bytes w64 b.at ++ to_be_bytes w16 b.len in
+          ap (λ bytes. event_at (bytes ++ rest)) (by_length_short short long b (short_is b.len lt))
+          ∙ (thread_again short b.t text rest fits.0 ∙ (as_short (text ++ rest) ∙ ap (λ r. making make r) (block_again w16 (2 ^ 16) wide16 b rest fits lt)))
+      | inr le ↦
+          let text = to_be_bytes w64 b.at ++ to_be_bytes w32 b.len in
+          ap (λ bytes. event_at (bytes ++ rest)) (by_length_long short long b (long_is b.len le))
+          ∙ (thread_again long b.t text rest fits.0 ∙ (as_long (text ++ rest) ∙ ap (λ r. making make r) (long_block_again b rest fits le)))
+    ]
+
 pub event_again : (e : Event) (rest : List ℕ) → EventFits e → event_at (event_text e ++ rest) ≡ Some (e, rest)
 unfolding operands_at
 event_again (Fork t n) rest fits = thread_again 1 t (to_be_bytes w16 n) rest fits.0 ∙ pair_again (λ c. Fork t c) n rest fits.1
@@ -315,8 +377,8 @@ event_again (RdLock t n) rest fits = thread_again 4 t (to_be_bytes w16 n) rest f
 event_again (Unlock t n) rest fits = thread_again 5 t (to_be_bytes w16 n) rest fits.0 ∙ pair_again (λ c. Unlock t c) n rest fits.1
 event_again (Read a) rest fits = thread_again 6 a.t (to_be_bytes w64 a.at ++ a.len ∷ []) rest fits.0 ∙ ap (λ r. making Read r) (access_again a rest fits)
 event_again (Write a) rest fits = thread_again 7 a.t (to_be_bytes w64 a.at ++ a.len ∷ []) rest fits.0 ∙ ap (λ r. making Write r) (access_again a rest fits)
-event_again (Alloc b) rest fits = thread_again 8 b.t (to_be_bytes w64 b.at ++ to_be_bytes w16 b.len) rest fits.0 ∙ ap (λ r. making Alloc r) (block_again b rest fits)
-event_again (Free b) rest fits = thread_again 9 b.t (to_be_bytes w64 b.at ++ to_be_bytes w16 b.len) rest fits.0 ∙ ap (λ r. making Free r) (block_again b rest fits)
+event_again (Alloc b) rest fits = blocks_again 8 12 Alloc b rest fits (λ bytes. refl) (λ bytes. refl)
+event_again (Free b) rest fits = blocks_again 9 13 Free b rest fits (λ bytes. refl) (λ bytes. refl)
 event_again (Send t n) rest fits = thread_again 10 t (to_be_bytes w32 n) rest fits.0 ∙ message_again (λ k. Send t k) n rest fits.1
 event_again (Recv t n) rest fits = thread_again 11 t (to_be_bytes w32 n) rest fits.0 ∙ message_again (λ k. Recv t k) n rest fits.1
 

@@ -38,4 +38,6 @@ length_by_kind kind =
     if kind == 9 then 23 else
     if kind == 10 then 17 else
     if kind == 11 then 17 else
+    if kind == 12 then 25 else
+    if kind == 13 then 25 else
     0

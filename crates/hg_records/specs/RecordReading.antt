@@ -6,6 +6,7 @@ use Rattle.hg_model.specs.declared.event.Block.{Block}
 use Rattle.hg_model.specs.declared.event.Event.{Event}
 use Rattle.hg_model.specs.declared.event.Event.TheVariants.{Fork, Join, Lock, RdLock, Unlock, Read, Write, Alloc, Free, Send, Recv}
 use Rattle.hg_model.specs.declared.event.Named.{Named}
+use Rattle.hg_records.specs.Records.{is_short}
 
 infixl 10 ◌>>=◌
 abbrev pub ◌>>=◌ : {A B : Type 0} → Option A → (A → Option B) → Option B
@@ -25,11 +26,18 @@ access_at t bytes = do
   len ← byte_at at.1
   Some (record { t = t; at = at.0; len = len.0 }, len.1)
 
-unfoldable pub block_at : ℕ → List ℕ → Option (Block × List ℕ)
-block_at t bytes = do
+-- a block, its length in so many bits
+unfoldable pub block_at : Width → ℕ → List ℕ → Option (Block × List ℕ)
+block_at w t bytes = do
   at ← number_at w64 bytes
-  len ← number_at w16 at.1
+  len ← number_at w at.1
   Some (record { t = t; at = at.0; len = len.0 }, len.1)
+
+-- A block whose length has 32 bits and does not fit 16: one that does has the other spelling.
+unfoldable pub long_block_at : ℕ → List ℕ → Option (Block × List ℕ)
+long_block_at t bytes = do
+  block ← block_at w32 t bytes
+  if is_short block.0.len then None else Some block
 
 -- the event made of a value that was read
 abbrev pub making : {X : Type 0} → (X → Event) → Option (X × List ℕ) → Option (Event × List ℕ)
@@ -45,10 +53,12 @@ operands_at kind t bytes =
     if kind == 5 then making (λ l. Unlock t l) (number_at w16 bytes) else
     if kind == 6 then making Read (access_at t bytes) else
     if kind == 7 then making Write (access_at t bytes) else
-    if kind == 8 then making Alloc (block_at t bytes) else
-    if kind == 9 then making Free (block_at t bytes) else
+    if kind == 8 then making Alloc (block_at w16 t bytes) else
+    if kind == 9 then making Free (block_at w16 t bytes) else
     if kind == 10 then making (λ k. Send t k) (number_at w32 bytes) else
     if kind == 11 then making (λ k. Recv t k) (number_at w32 bytes) else
+    if kind == 12 then making Alloc (long_block_at t bytes) else
+    if kind == 13 then making Free (long_block_at t bytes) else
     None
 
 unfoldable pub event_at : List ℕ → Option (Event × List ℕ)

@@ -1,5 +1,5 @@
 -- How an event is spelled in a journal: all numbers high byte first.
-use Rattle.std.specs.Prelude.{◌≡◌, ℕ, ◌<◌, ◌^◌, nat_lt, List, [], ◌∷◌, ◌++◌, if◌then◌else◌}
+use Rattle.std.specs.Prelude.{◌≡◌, ℕ, ◌<◌, ◌^◌, nat_lt, Bool, List, [], ◌∷◌, ◌++◌, if◌then◌else◌}
 use Rattle.std.specs.Int.{Width, w16, w32, w64, to_be_bytes}
 use Rattle.hg_model.specs.declared.event.Access.{Access}
 use Rattle.hg_model.specs.declared.event.Block.{Block}
@@ -18,9 +18,13 @@ access_text a = to_be_bytes w16 a.t ++ (to_be_bytes w64 a.at ++ a.len ∷ [])
 abbrev pub block_text : Width → Block → List ℕ
 block_text w b = to_be_bytes w16 b.t ++ (to_be_bytes w64 b.at ++ to_be_bytes w b.len)
 
+-- The length of a block fits 16 bits.
+abbrev pub is_short : ℕ → Bool
+is_short len = nat_lt len (2 ^ 16)
+
 -- The kind and the operands of a block: the first kind where its length fits 16 bits, and else the second, with a length of 32.
 abbrev pub by_length : ℕ → ℕ → Block → List ℕ
-by_length short long b = if nat_lt b.len (2 ^ 16) then short ∷ block_text w16 b else long ∷ block_text w32 b
+by_length short long b = if is_short b.len then short ∷ block_text w16 b else long ∷ block_text w32 b
 
 -- a thread and a message
 abbrev pub message_text : ℕ → ℕ → List ℕ

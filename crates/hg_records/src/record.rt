@@ -3,15 +3,15 @@
 ghost use Rattle.std.specs.Prelude.{◌≡◌, ◌≤◌, ◌++◌, ◌+◌, ◌∷◌, List, ℕ, Some, length, drop, vec_capacity, IsOk, OnOk, OnErr, IfSome, IfNone};
 ghost use Rattle.std.specs.Int.{w16, w32, w64, to_be_bytes};
 ghost use Rattle.hg_model.specs.declared.event.Event.{Event as EventOf};
-ghost use Rattle.hg_records.specs.Records.{AccessFits, BeginsWith, BeginsWithEvent, BlockFits, EventFits, MessageFits, PairFits, RecordFits, access_text, block_text, event_text, message_text, pair_text, record_text};
+ghost use Rattle.hg_records.specs.Records.{AccessFits, BeginsWith, BeginsWithEvent, BlockFits, EventFits, MessageFits, PairFits, RecordFits, access_text, by_length, event_text, message_text, pair_text, record_text};
 ghost use Rattle.hg_records.specs.Lengths.{HasNoRecord, IsRecordLength, TakesEvent, TakesRecord, length_by_kind};
-ghost use Rattle.hg_records.specs.RecordReading.{Gives, access_at, block_at, byte_at, event_at, number_at, operands_at, record_at};
+ghost use Rattle.hg_records.specs.RecordReading.{Gives, access_at, block_at, byte_at, event_at, long_block_at, number_at, operands_at, record_at};
 
 use hg_model::event::{Access, Block, Event, Named};
 use std::alloc::AllocError;
 
 /// The most bytes that a record has.
-pub const MAX_RECORD_LEN: usize = 23;
+pub const MAX_RECORD_LEN: usize = 25;
 
 #[inline(always)]
 fn u16_at(bytes: &[u8]) -> Option<(u16, &[u8])>
@@ -70,13 +70,29 @@ fn access_of(t: u16, bytes: &[u8]) -> Option<(Access, &[u8])>
     Some((Access { t, at, len }, rest))
 }
 
+/// A block whose length has 16 bits.
 #[inline(always)]
 #[tactic(auto, unfolding(crate::specs::RecordReading::block_at))]
 fn block_of(t: u16, bytes: &[u8]) -> Option<(Block, &[u8])>
-    ensures { Gives (λ x. (x.0, x.1.now)) result (block_at t bytes.now) }
+    ensures { Gives (λ x. (x.0, x.1.now)) result (block_at w16 t bytes.now) }
 {
     let (at, rest) = u64_at(bytes)?;
     let (len, rest) = u16_at(rest)?;
+    let len = u32::from(len);
+    Some((Block { t, at, len }, rest))
+}
+
+/// A block whose length has 32 bits and does not fit 16.
+#[inline(always)]
+#[tactic(auto, unfolding(crate::specs::RecordReading::block_at, crate::specs::RecordReading::long_block_at))]
+fn long_block_of(t: u16, bytes: &[u8]) -> Option<(Block, &[u8])>
+    ensures { Gives (λ x. (x.0, x.1.now)) result (long_block_at t bytes.now) }
+{
+    let (at, rest) = u64_at(bytes)?;
+    let (len, rest) = u32_at(rest)?;
+    if len <= u32::from(u16::MAX) {
+        return None;
+    }
     Some((Block { t, at, len }, rest))
 }
 
@@ -130,6 +146,14 @@ fn operands_of(kind: u8, t: u16, bytes: &[u8]) -> Option<(Event, &[u8])>
         11 => {
             let (k, rest) = u32_at(bytes)?;
             Some((Event::Recv { t, k }, rest))
+        }
+        12 => {
+            let (block, rest) = long_block_of(t, bytes)?;
+            Some((Event::Alloc(block), rest))
+        }
+        13 => {
+            let (block, rest) = long_block_of(t, bytes)?;
+            Some((Event::Free(block), rest))
         }
         _ => None,
     }
@@ -194,12 +218,14 @@ fn len_of(kind: u8) -> usize
         9 => 23,
         10 => 17,
         11 => 17,
+        12 => 25,
+        13 => 25,
         _ => 0,
     }
 }
 
 /// The length in bytes of the record at the front of the bytes, without reading its event. `None` says that the bytes begin
-/// with no record.
+/// with no record. In a record of the greatest length a block's length stands at byte 21, and does not fit 16 bits.
 #[inline]
 pub fn record_len(bytes: &[u8]) -> Option<usize>
     ensures some { IfSome result (IsRecordLength bytes.now) }
@@ -213,6 +239,13 @@ pub fn record_len(bytes: &[u8]) -> Option<usize>
         return None;
     }
     if bytes.len() < len {
+        return None;
+    }
+    if len != MAX_RECORD_LEN {
+        return Some(len);
+    }
+    let upper_half = u16::from_be_bytes([bytes[21], bytes[22]]);
+    if upper_half == 0 {
         return None;
     }
     Some(len)
@@ -280,7 +313,7 @@ fn blocks_fit(block: Block)
 pub fn put_record(named: &Named, out: &mut Vec<u8>) -> Result<(), AllocError>
     ensures ok { OnOk result (out.new.items ≡ out.old.items ++ record_text named.now) }
     ensures err { OnErr result (out.new.items ≡ out.old.items) }
-    ensures room { length out.old.items + 23 ≤ vec_capacity out.old → IsOk result }
+    ensures room { length out.old.items + 25 ≤ vec_capacity out.old → IsOk result }
     ensures capacity { vec_capacity out.old ≤ vec_capacity out.new }
     ensures fits { OnOk result (RecordFits named.now) }
 {
@@ -312,7 +345,7 @@ fn put_name(source: u16, number: u64, out: &mut Vec<u8>) -> Result<(), AllocErro
 pub fn put_event(event: &Event, out: &mut Vec<u8>) -> Result<(), AllocError>
     ensures ok { OnOk result (out.new.items ≡ out.old.items ++ event_text event.now) }
     ensures err { OnErr result (out.new.items ≡ out.old.items) }
-    ensures room { length out.old.items + 13 ≤ vec_capacity out.old → IsOk result }
+    ensures room { length out.old.items + 15 ≤ vec_capacity out.old → IsOk result }
     ensures capacity { vec_capacity out.old ≤ vec_capacity out.new }
     ensures fits { EventFits event.now }
 {
@@ -324,8 +357,8 @@ pub fn put_event(event: &Event, out: &mut Vec<u8>) -> Result<(), AllocError>
         Event::Unlock { t, l } => put_pair(5, *t, *l, out),
         Event::Read(access) => put_access(6, *access, out),
         Event::Write(access) => put_access(7, *access, out),
-        Event::Alloc(block) => put_block(8, *block, out),
-        Event::Free(block) => put_block(9, *block, out),
+        Event::Alloc(block) => put_block(8, 12, *block, out),
+        Event::Free(block) => put_block(9, 13, *block, out),
         Event::Send { t, k } => put_message(10, *t, *k, out),
         Event::Recv { t, k } => put_message(11, *t, *k, out),
     }
@@ -357,18 +390,26 @@ fn put_access(kind: u8, access: Access, out: &mut Vec<u8>) -> Result<(), AllocEr
     ])
 }
 
-fn put_block(kind: u8, block: Block, out: &mut Vec<u8>) -> Result<(), AllocError>
-    ensures ok { OnOk result (out.new.items ≡ out.old.items ++ (kind ∷ block_text block)) }
+/// The kind is `short` where the block's length fits 16 bits, and else `long`.
+fn put_block(short: u8, long: u8, block: Block, out: &mut Vec<u8>) -> Result<(), AllocError>
+    ensures ok { OnOk result (out.new.items ≡ out.old.items ++ by_length short long block) }
     ensures err { OnErr result (out.new.items ≡ out.old.items) }
-    ensures room { length out.old.items + 13 ≤ vec_capacity out.old → IsOk result }
+    ensures room { length out.old.items + 15 ≤ vec_capacity out.old → IsOk result }
     ensures capacity { vec_capacity out.old ≤ vec_capacity out.new }
     ensures fits { BlockFits block }
 {
     let t = block.t.to_be_bytes();
     let at = block.at.to_be_bytes();
     let len = block.len.to_be_bytes();
+    if block.len <= u32::from(u16::MAX) {
+        return out.extend_from_slice(&[
+            short, t[0], t[1], at[0], at[1], at[2], at[3], at[4], at[5], at[6], at[7], len[2],
+            len[3],
+        ]);
+    }
     out.extend_from_slice(&[
-        kind, t[0], t[1], at[0], at[1], at[2], at[3], at[4], at[5], at[6], at[7], len[0], len[1],
+        long, t[0], t[1], at[0], at[1], at[2], at[3], at[4], at[5], at[6], at[7], len[0], len[1],
+        len[2], len[3],
     ])
 }
 

@@ -296,7 +296,8 @@ pub fn pair_event(verb: Verb, first: u16, second: u64) -> Option<Event>
     }
 }
 
-/// The event of a verb that takes three operands, where they fit. A block's length comes in 16 bits here, as usual lines have it.
+/// The event of a verb that takes three operands, where they fit. The length has 16 bits here, as in a usual line; one of a
+/// block that has more is read token by token.
 #[inline(always)]
 pub fn sized_event(kind: VerbKind, t: u16, at: u64, len: u16) -> Option<Event>
     ensures { IfSome result (λ event. Makes (verb_of kind) (t ∷ at ∷ len ∷ []) event) }
