@@ -218,6 +218,6 @@ pub(crate) fn is_thread_set(sets: &SetTable, id: u32) -> bool
     if id >= sets.len() {
         return false;
     }
-    let members = sets.members(id);
-    members.len() >= 2 && members[members.len() - 1] <= GREATEST_THREAD
+    let (size, greatest) = sets.size_and_greatest(id);
+    size >= 2 && greatest <= GREATEST_THREAD
 }
