@@ -1,6 +1,5 @@
 pub mod Encoding
 pub mod Decoding
-pub mod Members
 mod Numbers
 mod Putting
 mod Reading

@@ -97,14 +97,16 @@ pub(crate) fn numbers_of(cell: Cell) -> (u32, u32, u32)
     (kind_of(cell) + mark, first_of(cell), locks)
 }
 
-// The number that four of the bytes spell.
+// The number that four of the bytes spell: one read, since they are an array.
 #[inline(always)]
 fn number(bytes: &[u8], at: usize) -> u32
     requires { at + 4 ≤ length bytes.now }
     ensures { result ≡ number_at bytes.now at }
 {
-    let part = &bytes[at..at + 4];
-    u32::from_be_bytes([part[0], part[1], part[2], part[3]])
+    let Some(digits) = bytes[at..at + 4].as_array::<4>() else {
+        unreachable!()
+    };
+    u32::from_be_bytes(*digits)
 }
 
 /// The three numbers that twelve bytes spell.
@@ -216,6 +218,6 @@ pub(crate) fn is_thread_set(sets: &SetTable, id: u32) -> bool
     if id >= sets.len() {
         return false;
     }
-    let members = sets.members(id);
-    members.len() >= 2 && members[members.len() - 1] <= GREATEST_THREAD
+    let (size, greatest) = sets.size_and_greatest(id);
+    size >= 2 && greatest <= GREATEST_THREAD
 }

@@ -61,3 +61,9 @@ Interns old set result new =
 pub record KeepsNumbers (old new : Table) : Type 0 where
   pub limit : new.limit ≡ old.limit
   pub sets : (id : ℕ) → id < length old.sets → StandsAt new.sets (set_at old.sets id) id
+
+-- the greatest of these numbers, or 0 where there is none
+pub record IsGreatest (members : List ℕ) (greatest : ℕ) : Type 0 where
+  pub none_above : All (λ member. member ≤ greatest) members
+  pub is_member : 0 < length members → Contains members greatest
+  pub zero_of_none : length members ≡ 0 → greatest ≡ 0

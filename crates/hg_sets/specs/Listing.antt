@@ -13,6 +13,14 @@ list_at elements span = take span.len (drop span.start elements)
 abbrev pub lists_of : List ℕ → List Span → List (List ℕ)
 lists_of elements spans = map (list_at elements) spans
 
+-- the last element of a list, or 0 where there is none
+abbrev pub last_of : List ℕ → ℕ
+last_of xs = slice_index xs (length xs - 1)
+
+-- a span has the last element of its list
+abbrev pub HasLast : List ℕ → Span → Type 0
+HasLast elements span = span.last ≡ last_of (list_at elements span)
+
 -- the hash of a list behind what was hashed before
 abbrev pub hash_behind : ℕ → List ℕ → ℕ
 hash_behind hash [] = hash
@@ -59,12 +67,14 @@ IsNumberOf lists list found = MatchOption found (¬ Contains lists list) (Stands
 abbrev pub AreFound : List (List ℕ) → List ℕ → ℕ → Type 0
 AreFound lists slots count = (id : ℕ) → id < count → IsFoundBy slots (hash_of (set_at lists id)) (id + 1)
 
--- Each list stands within the elements, and is found among the slots. It takes one of these, and at least half of them are free.
+-- Each list stands within the elements, its last one is in its span, and it is found among the slots. It takes one of these, and
+-- at least half of them are free.
 pub record AreListed (elements : List ℕ) (spans : List Span) (slots : List ℕ) : Type 0 where
   pub few_elements : length elements < MOST_ELEMENTS
   pub few_lists : length spans ≤ length slots / 2
   pub few_slots : length slots ≤ 2 ^ 32
   pub within : All (λ span. span.start + span.len ≤ length elements) spans
+  pub lasts : All (HasLast elements) spans
   pub numbers : HoldNumbers (length spans) slots
   pub one_slot_each : taken slots ≡ length spans
   pub found : AreFound (lists_of elements spans) slots (length spans)

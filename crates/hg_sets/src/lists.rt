@@ -2,7 +2,7 @@
 
 ghost use Rattle.std.specs.Prelude.{◌≡◌, ◌⊎◌, ◌^◌, ◌<◌, ◌≤◌, ◌+◌, ◌/◌, ◌++◌, ◌∷◌, ℕ, [], All, length, IfOk, OnOk, OnErr, vec_capacity};
 ghost use Rattle.hg_sets.specs.Interning.{set_at};
-ghost use Rattle.hg_sets.specs.Listing.{AreListed, HoldNumbers, IsFoundBy, IsNumberOf, StillHold, elements_left, first_slot, hash_of, list_at, lists_left, lists_of, next_slot, taken};
+ghost use Rattle.hg_sets.specs.Listing.{AreListed, HasLast, HoldNumbers, IsFoundBy, IsNumberOf, StillHold, elements_left, first_slot, hash_of, last_of, list_at, lists_left, lists_of, next_slot, taken};
 
 use std::alloc::{AllocError, Global};
 use std::marker::Model;
@@ -19,11 +19,12 @@ pub(crate) const MOST_ELEMENTS: usize = 4_294_967_296;
 /// The most slots that may be made four times as many.
 const MOST_QUARTER: usize = 1_073_741_824;
 
-/// Where the elements of a list stand.
+/// Where the elements of a list stand, and the last of them, or 0 where there is none.
 #[derive(Clone, Copy, Debug, PartialEq, Eq, Drop)]
 pub(crate) struct Span {
     pub(crate) start: u32,
     pub(crate) len: u32,
+    pub(crate) last: u16,
 }
 
 /// Lists in the order in which they came, found by their elements.
@@ -87,6 +88,17 @@ impl Lists {
         ensures { result.now ≡ set_at self.now.all id }
     {
         elements_of(self.elements.as_slice(), self.spans[id as usize])
+    }
+
+    /// How many elements a list has, and the last of them, or 0 where it has none. The elements are not read.
+    #[inline]
+    pub(crate) fn len_and_last(&self, id: u32) -> (u32, u16)
+        requires { id < length self.now.all }
+        ensures len { result.0 ≡ length (set_at self.now.all id) }
+        ensures last { result.1 ≡ last_of (set_at self.now.all id) }
+    {
+        let span = self.spans[id as usize];
+        (span.len, span.last)
     }
 
     /// The number of this list, if it is there. `hash` is its hash.
@@ -155,6 +167,17 @@ fn elements_of(elements: &[u16], span: Span) -> &[u16]
     ensures { result.now ≡ list_at elements.now span }
 {
     &elements[span.start as usize..][..span.len as usize]
+}
+
+/// The last element of a list, or 0 where there is none.
+#[inline]
+fn last_of(list: &[u16]) -> u16
+    ensures { result ≡ last_of list.now }
+{
+    if list.is_empty() {
+        return 0;
+    }
+    list[list.len() - 1]
 }
 
 /// The hash of a list.
@@ -285,6 +308,7 @@ fn slots_for(
     requires few_elements { length elements.now < 2 ^ 32 }
     requires half_free { length spans.now ≤ count / 2 }
     requires within { All (λ span. span.start + span.len ≤ length elements.now) spans.now }
+    requires lasts { All (HasLast elements.now) spans.now }
     requires slots { count ≤ 2 ^ 32 }
     ensures len { IfOk result (λ slots. length slots.items ≡ count) }
     ensures listed { IfOk result (λ slots. AreListed elements.now spans.now slots.items) }
@@ -365,6 +389,7 @@ fn push_in(
     let span = Span {
         start: elements.len() as u32,
         len: list.len() as u32,
+        last: last_of(list),
     };
     elements.extend_from_slice(list).unwrap();
     put_in(slots, hash, spans.len() as u32 + 1);
