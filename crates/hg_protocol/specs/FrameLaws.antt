@@ -17,7 +17,7 @@ pub narrow_frame : MOST_FRAME_BYTES < 2 ^ 16
 narrow_frame = omega arith
 
 -- either spelling of a block
-few_of_block : (is_short_one : Bool) (short long : ℕ) (b : Block) → length (cond is_short_one (short ∷ block_text w16 b) (long ∷ block_text w32 b)) ≤ 15
+few_of_block : (fits : Bool) (short long : ℕ) (b : Block) → length (cond fits (short ∷ block_text w16 b) (long ∷ block_text w32 b)) ≤ 15
 few_of_block true short long b = omega arith
 few_of_block false short long b = omega arith
 
