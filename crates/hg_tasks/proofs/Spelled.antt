@@ -86,8 +86,8 @@ read_again verb.Send numbers fit = two (IsRead verb.Send) 16 32 (λ a b x y. spe
 read_again verb.Recv numbers fit = two (IsRead verb.Recv) 16 32 (λ a b x y. spelled verb.Recv (a ∷ b ∷ []) (x, (y, tt)) (omega (arith, x), (omega (arith, y), tt)) (omega arith)) numbers fit
 read_again verb.Read numbers fit = three (IsRead verb.Read) 8 (λ a b c x y z. spelled verb.Read (a ∷ b ∷ c ∷ []) (x, (y, (z, tt))) (omega (arith, x), (y, (omega (arith, z), tt))) (omega arith)) numbers fit
 read_again verb.Write numbers fit = three (IsRead verb.Write) 8 (λ a b c x y z. spelled verb.Write (a ∷ b ∷ c ∷ []) (x, (y, (z, tt))) (omega (arith, x), (y, (omega (arith, z), tt))) (omega arith)) numbers fit
-read_again verb.Alloc numbers fit = three (IsRead verb.Alloc) 16 (λ a b c x y z. spelled verb.Alloc (a ∷ b ∷ c ∷ []) (x, (y, (z, tt))) (omega (arith, x), (y, (omega (arith, z), tt))) (omega arith)) numbers fit
-read_again verb.Free numbers fit = three (IsRead verb.Free) 16 (λ a b c x y z. spelled verb.Free (a ∷ b ∷ c ∷ []) (x, (y, (z, tt))) (omega (arith, x), (y, (omega (arith, z), tt))) (omega arith)) numbers fit
+read_again verb.Alloc numbers fit = three (IsRead verb.Alloc) 32 (λ a b c x y z. spelled verb.Alloc (a ∷ b ∷ c ∷ []) (x, (y, (z, tt))) (omega (arith, x), (y, (omega (arith, z), tt))) (omega arith)) numbers fit
+read_again verb.Free numbers fit = three (IsRead verb.Free) 32 (λ a b c x y z. spelled verb.Free (a ∷ b ∷ c ∷ []) (x, (y, (z, tt))) (omega (arith, x), (y, (omega (arith, z), tt))) (omega arith)) numbers fit
 
 pub lines_read : (v : Verb) (numbers : List ℕ) (event : Event) → Makes v numbers event → IsLineOf (event_line event) event
 lines_read v numbers event made = subst (λ e. IsLineOf (event_line e) e) (sym made.1) (read_again v numbers made.0)
