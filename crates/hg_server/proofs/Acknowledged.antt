@@ -1,19 +1,23 @@
--- What clients were told is durable in the store that a server leaves.
-use Rattle.std.proofs.Common.{◌≡◌, ◌≤◌, ◌∷◌, inl, ⊎_elim, [], All, Contains, List, Option, Some, map, reverse, IfOk, Result, Ok, Err, Vec, refl, subst, sym}
+-- What clients were told is durable in the store that a server leaves, and each event that it accepted is in their conversations.
+use Rattle.std.proofs.Common.{◌≡◌, ◌+◌, ◌≤◌, ◌∷◌, ◌∙◌, arith, inl, ⊎_elim, [], ℕ, All, Contains, List, Option, Some, map, reverse, IfOk, IsOk, IsTrue, OnOk, Result, Ok, Err, Vec, ap, refl, subst, sym}
+use Rattle.std.specs.List.{sum_by}
+use Rattle.std.proofs.lemmas.Bool.{false≢true}
 use Rattle.std.proofs.lemmas.List.{reverse-append, reverse-reverse}
+use Rattle.std.proofs.lemmas.List.Sums.{sum-map, sum_by-cons, sum_by_push}
 use Rattle.std.proofs.lemmas.List.Elements.{All-cons, All-contains, All-contains_itself, All-head, All-nil, All-push, All-tail, All-weaker}
 use Rattle.hg_model.specs.Contents.{Content}
 use Rattle.hg_disk.specs.declared.disk.Disk as disk
 use Rattle.hg_receipts.specs.declared.view.Acked.{Acked}
-use Rattle.hg_store.specs.Shown.{ShownStore, saved}
-use Rattle.hg_desk.specs.Counting.{AreAcked}
+use Rattle.hg_store.specs.Shown.{ShownStore, live, saved}
+use Rattle.hg_desk.specs.Counting.{AreAcked, accepted_in, events_of}
 use Rattle.hg_desk.specs.Going.{Began, LeadsTo, began}
-use Rattle.hg_desk.specs.Told.{HasAcked, Told, ack}
+use Rattle.hg_desk.specs.Told.{HasAcked, Told, ack, nothing_told}
 use Rattle.hg_desk.proofs.Going.{still_acked}
-use Rattle.hg_server.specs.Acknowledged.{AcksAreDurable, BackAreTold, IsDurable, LeavesAcksDurable, OneWasTold, TalksAreDurable, TalksAreTold, ToldItsAcks, Worked, share_of, talks_of}
+use Rattle.hg_server.specs.Acknowledged.{AcceptedIn, AcksAreDurable, BackAreRecorded, BackAreTold, EventsAreRecorded, HasEventsOf, IsDurable, LedFromNothing, OneWasTold, TalksAreDurable, TalksAreTold, ToldItsAcks, Worked, share_of, talks_of}
 use Rattle.hg_server.specs.Talking.{IsAcked}
 use Rattle.hg_server.specs.declared.course.Course.{Course}
 use Rattle.hg_server.specs.declared.wire.Transcript.{Transcript}
+use Rattle.hg_server.proofs.Talking.{all_acked}
 
 -- ---- lists
 
@@ -27,8 +31,36 @@ all_reverse P (x ∷ xs) all =
 all_in_reverse : {X : Type 0} (xs : List X) → All (Contains (reverse xs)) xs
 all_in_reverse xs = subst (λ l. All (Contains (reverse xs)) l) (reverse-reverse xs) (all_reverse (Contains (reverse xs)) (reverse xs) (All-contains_itself (reverse xs)))
 
+-- ---- how many events shares were told of
+
+abbrev accepted_of : Told → ℕ
+accepted_of share = share.accepted
+
+summed : (shares : List Told) → accepted_in shares ≡ sum_by accepted_of shares
+summed shares = sum-map accepted_of shares
+
+summed_reverse : (shares : List Told) → sum_by accepted_of (reverse shares) ≡ sum_by accepted_of shares
+summed_reverse [] = refl
+summed_reverse (one ∷ others) =
+    let back = ap (sum_by accepted_of) (reverse-append (one ∷ []) others) ∙ sum_by_push accepted_of (reverse others) one in
+    let rest = summed_reverse others in
+    let front = sum_by-cons accepted_of one others in
+    omega (arith, back, rest, front)
+
+-- Beside one that was told of none, in reverse, they were told of as many.
+all_accepted : (first : Told) (shares : List Told) → first.accepted ≡ 0 → accepted_in shares ≡ accepted_in (first ∷ reverse shares)
+all_accepted first shares none =
+    let all = summed (first ∷ reverse shares) ∙ sum_by-cons accepted_of first (reverse shares) in
+    let back = summed_reverse shares in
+    let these = summed shares in
+    omega (arith, all, back, these, none)
+
 module _ {D : Type 0} (g : disk.Ghosts D) (opening : Option Began) where
   -- ---- the threads' shares
+
+  -- Workers' shares were told of each acknowledgement in the conversations that led them from nothing.
+  pub led_told : (worked : List Worked) → All (LedFromNothing g opening) worked → All (ToldItsAcks g opening) worked
+  led_told worked led = All-weaker (LedFromNothing g opening) (ToldItsAcks g opening) (λ (w : Worked) is. all_acked g opening nothing_told w.1 w.0 is) worked led
 
   told_among : (shares : List Told) (worked : List Worked) → All (Contains shares) (map share_of worked) → All (ToldItsAcks g opening) worked
       → All (OneWasTold g opening shares) (map talks_of worked)
@@ -55,6 +87,17 @@ module _ {D : Type 0} (g : disk.Ghosts D) (opening : Option Began) where
       → IfOk result (λ r. r.1 ≡ map talks_of worked) → All (ToldItsAcks g opening) worked → BackAreTold g opening result
   back_told first worked (Ok back) is held told = talks_told first worked back.0.items back.1 is held told
   back_told first worked (Err e) is held told = tt
+
+  -- All events that the shares were told of are in the workers' conversations, where the first was told of none.
+  pub back_recorded : {Z E : Type 0} (first : Told) (worked : List Worked) (result : Result (Vec Told Z × List (List Transcript)) E) → IfOk result (λ r. r.0.items ≡ first ∷ reverse (map share_of worked))
+      → IfOk result (λ r. r.1 ≡ map talks_of worked) → first.accepted ≡ 0 → All (LedFromNothing g opening) worked → BackAreRecorded g opening result
+  back_recorded first worked (Ok back) is held none led = record {
+    worked = worked;
+    held = held;
+    led = led;
+    told = all_accepted first (map share_of worked) none ∙ sym (ap accepted_in is);
+  }
+  back_recorded first worked (Err e) is held none led = tt
 
   -- ---- what is durable
 
@@ -101,9 +144,23 @@ module _ {D : Type 0} (g : disk.Ghosts D) where
   pub none_durable : (start left : ShownStore D) (talks : List (List Transcript)) → talks ≡ [] → AcksAreDurable g start left talks
   none_durable start left talks none honest = no_talks_durable g (Some (began g start)) (saved g left) talks none
 
-  -- A server that went so left them durable.
-  pub leaves_durable : (start now : ShownStore D) (course : Course D) (first : ShownStore D) (talks : List (List Transcript)) → course.opened ≡ first ∷ [] → first ≡ start → course.talks ≡ talks
-      → AcksAreDurable g start now talks → LeavesAcksDurable g course now
-  leaves_durable start now course first talks pushed is same durable other opened =
+  -- What holds of the store that was opened, and of the conversations, holds of a server that went so.
+  pub leaves : (P : ShownStore D → List (List Transcript) → Type 0) (start : ShownStore D) (course : Course D) (first : ShownStore D) (talks : List (List Transcript)) → course.opened ≡ first ∷ [] → first ≡ start
+      → course.talks ≡ talks → P start talks → (other : ShownStore D) → course.opened ≡ other ∷ [] → P other course.talks
+  leaves P start course first talks pushed is same holds other opened =
       let one : start ≡ other = cc in
-      subst (λ (s : ShownStore D). AcksAreDurable g s now course.talks) one (subst (λ (t : List (List Transcript)). AcksAreDurable g start now t) (sym same) durable)
+      subst (λ (s : ShownStore D). P s course.talks) one (subst (λ (t : List (List Transcript)). P start t) (sym same) holds)
+
+  -- The events that were accepted are in the conversations, where the shares were taken in, and the store accepted none since.
+  pub still_recorded : {T E U F : Type 0} (ended : Result T E) (taken_in : Result U F) (opening : Option Began) (before : ℕ) (start mid left : ShownStore D) (talks : List (List Transcript)) → opening ≡ Some (began g start)
+      → events_of g start ≡ before → live g left ≡ live g mid → OnOk ended (IsOk taken_in) → (IsTrue g.is_honest → OnOk taken_in (HasEventsOf g opening before mid talks)) → OnOk ended (EventsAreRecorded g start left talks)
+  still_recorded (Ok done) (Ok all) opening before start mid left talks began_so count same gathered has =
+      λ honest.
+      let events = has honest in
+      let are : AcceptedIn g (Some (began g start)) talks events.0 = subst (λ (o : Option Began). AcceptedIn g o talks events.0) began_so events.1 in (
+        events.0,
+        are,
+        ap (λ (c : Content). c.events) same ∙ events.2 ∙ ap (λ n. n + events.0) (sym count),
+      )
+  still_recorded (Ok done) (Err e) opening before start mid left talks began_so count same gathered has = absurd (false≢true gathered)
+  still_recorded (Err e) taken_in opening before start mid left talks began_so count same gathered has = tt

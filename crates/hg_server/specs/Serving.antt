@@ -25,7 +25,7 @@ use Rattle.hg_server.specs.declared.serving.Service.{Service}
 use Rattle.hg_server.specs.declared.settings.Place.{Place}
 use Rattle.hg_server.specs.declared.settings.Place.TheVariants as place
 use Rattle.hg_server.specs.declared.settings.Settings.{Settings}
-use Rattle.hg_server.specs.Acknowledged.{LeavesAcksDurable}
+use Rattle.hg_server.specs.Acknowledged.{LeavesAcksDurable, LeavesEventsRecorded}
 use Rattle.hg_server.specs.Settling.{IsServingFault, IsSettled, StopsFor}
 
 -- how many connections were served, and the end line of a store with this content
@@ -115,7 +115,8 @@ module _ {D : Type 0} (g : disk.Ghosts D) where
     pub looked : Recovers g old opened
     pub kept : EachImageAlong g opened moments new (IsOn first last)
 
-  -- A server that came to its end: workers took as many connections as they should, all was printed, and each accepted event is durable.
+  -- A server that came to its end: workers took as many connections as they should, all was printed, each accepted event is durable, and
+  -- each was accepted in a conversation of the course.
   pub record EndsWell (settings : Settings) (old : Devices D) (course : Course D) (store : ShownStore D) (calls_old calls_new : List WriteCall) : Type 0 where
     pub all_taken : course.taken.count ≡ settings.connections
     pub printed : Took calls_old calls_new (serving_by settings store)
@@ -123,6 +124,7 @@ module _ {D : Type 0} (g : disk.Ghosts D) where
     pub served : IsTrue g.is_honest → Served old course.moments store.devices (live g store)
     pub settled : IsSettled g store
     pub acked : LeavesAcksDurable g course store
+    pub recorded : LeavesEventsRecorded g course store
 
   -- No store was opened: this is why. Nothing was written, and the devices were only looked at.
   pub record NoneOpened (old : Devices D) (course : Course D) (new : Devices D) (calls_old calls_new : List WriteCall) (r : Refusal) : Type 0 where

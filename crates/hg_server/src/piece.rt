@@ -1,5 +1,8 @@
 //! What a worker begins with.
 
+ghost use Rattle.std.specs.Prelude.{◌≡◌, All, IfOk};
+ghost use Rattle.hg_desk.specs.Told.{nothing_told};
+
 use hg_desk::share::{Column, Opening, Share};
 use hg_streams::streams::PIECE_BYTES;
 use std::alloc::{AllocError, Global};
@@ -40,12 +43,15 @@ pub(crate) fn pieces_for(alloc: Global, workers: u16) -> Result<Vec<Piece>, Allo
     Ok(pieces)
 }
 
-/// Gives each share a piece.
+/// Gives each share a piece. They were told of nothing yet.
 pub(crate) fn stations<A: Opening, B: Column>(
     alloc: Global,
     shares: Vec<Share<A, B>>,
     pieces: Vec<Piece>,
-) -> Result<Vec<Station<A, B>>, AllocError> {
+) -> Result<Vec<Station<A, B>>, AllocError>
+    requires new { All (λ s. s ≡ nothing_told) shares.items }
+    ensures new { IfOk result (λ all. All (λ s. s.share ≡ nothing_told) all.items) }
+{
     let mut pieces = pieces;
     let mut all = Vec::new(alloc);
     for share in shares {

@@ -1,6 +1,6 @@
 //! The server: a listener, and workers in threads of their own.
 
-ghost use Rattle.std.specs.Prelude.{◌≡◌, ◌+◌, ◌∷◌, map, reverse, Some, IfErr, IfOk, IsTrue, OnOk, false};
+ghost use Rattle.std.specs.Prelude.{◌≡◌, ◌+◌, ◌∷◌, All, map, reverse, Some, IfErr, IfOk, IsTrue, OnOk, false};
 ghost use Rattle.std.specs.Thread.{IsSend, IsSync};
 ghost use Rattle.hg_store.specs.Shown.{live, saved};
 ghost use Rattle.hg_streams.specs.Faults.{HasWriteCause};
@@ -9,7 +9,8 @@ ghost use Rattle.hg_streams.specs.Written.{Took};
 ghost use Rattle.hg_store.specs.Limits.{IsFrameCount};
 ghost use Rattle.hg_desk.specs.Blanks.{IsBlankOf};
 ghost use Rattle.hg_desk.specs.Going.{WentOn, WentOnSince, began};
-ghost use Rattle.hg_server.specs.Acknowledged.{AcksAreDurable, BackAreTold, EachToldItsAcks, TalksAreDurable, ToldItsAcks, share_of, talks_of};
+ghost use Rattle.hg_desk.specs.Told.{nothing_told};
+ghost use Rattle.hg_server.specs.Acknowledged.{AcksAreDurable, BackAreRecorded, BackAreTold, EachLedFromNothing, EventsAreRecorded, HasEventsOf, LedFromNothing, TalksAreDurable, share_of, talks_of};
 ghost use Rattle.hg_server.specs.Serving.{AddsFrontOnErr, AddsOnOk, EndsByFault, EndsEarlyWhere, EndsFor, EndsWellWhere, IsStatusOf, PrintsAllOnOk, PrintsFrontOnErr, ready_text, ServesWell, StopsEarly, served_by};
 ghost use Rattle.hg_server.specs.Settling.{IsSettled};
 
@@ -62,7 +63,7 @@ pub struct Door<'a, G> {
 }
 
 /// Runs the workers until the connections are served or the store is broken, and gives their shares back with the conversations that they held, and
-/// how many connections they took. Their nudges end with them.
+/// how many connections they took. Their shares were told of nothing yet. Their nudges end with them.
 fn run_workers<
     D: Disk + Send + Drop,
     A: Opening + Send + Sync,
@@ -82,7 +83,8 @@ fn run_workers<
     Result<Vec<(Share<A, B>, Trail<Transcript>)>, AllocError>,
     Taken,
 )
-    ensures told { EachToldItsAcks ⟦<D as Disk>⟧ A.start result.0 }
+    requires new { All (λ s. s ≡ nothing_told) shares.items }
+    ensures led { EachLedFromNothing ⟦<D as Disk>⟧ A.start result.0 }
 {
     let Ok(stations) = stations(alloc, shares, pieces) else {
         return (Err(AllocError), Taken::none());
@@ -98,8 +100,8 @@ fn run_workers<
     thread::join(
         rt,
         move || -> Result<Vec<(Share<A, B>, Trail<Transcript>)>, AllocError>
-            requires { IsSend D.row × IsSync R.row × IsSync G.row }
-            ensures { EachToldItsAcks D.Disk A.start result }
+            requires { IsSend D.row × IsSync R.row × IsSync G.row × All (λ s. s.share ≡ nothing_told) stations.items }
+            ensures { EachLedFromNothing D.Disk A.start result }
         {
             // It ends with the last worker: then no connection is taken any more.
             let queue = &from;
@@ -107,7 +109,8 @@ fn run_workers<
                 rt,
                 stations,
                 &|station: Station<A, B>| -> (Share<A, B>, Trail<Transcript>)
-                    ensures { ToldItsAcks D.Disk A.start result }
+                    requires { station.share ≡ nothing_told }
+                    ensures { LedFromNothing D.Disk A.start result }
                 {
                     let Station { share, piece } = station;
                     worker(
@@ -150,7 +153,9 @@ fn run_all<
     Result<(Vec<Share<A, B>>, Trail<Trail<Transcript>>), AllocError>,
     Taken,
 )
+    requires new { All (λ s. s ≡ nothing_told) shares.items }
     ensures told { BackAreTold ⟦<D as Disk>⟧ A.start result.0 }
+    ensures recorded { BackAreRecorded ⟦<D as Disk>⟧ A.start result.0 }
 {
     let mut shares = shares;
     let Some(share) = shares.pop() else {
@@ -182,7 +187,12 @@ fn run_all<
                 due,
             )
         },
-        move || run_workers(rt, alloc, shared, shares, pieces, to, door, terms),
+        move || -> (
+            Result<Vec<(Share<A, B>, Trail<Transcript>)>, AllocError>,
+            Taken,
+        )
+            requires { All (λ s. s ≡ nothing_told) shares.items }
+        { run_workers(rt, alloc, shared, shares, pieces, to, door, terms) },
     );
     let Ok(worked) = worked else {
         return (Err(AllocError), taken);
@@ -216,8 +226,11 @@ fn take_in<D: Disk, A: Opening, B: Column>(
     shared: Shared<D, A, B>,
 ) -> (TakenIn<D>, Trail<Trail<Transcript>>, Result<(), AllocError>)
     requires told { BackAreTold ⟦<D as Disk>⟧ A.start back }
+    requires recorded { BackAreRecorded ⟦<D as Disk>⟧ A.start back }
     ensures since { WentOnSince ⟦<D as Disk>⟧ A.start result.0.moments result.0.store }
     ensures durable { IsTrue D.is_honest → TalksAreDurable ⟦<D as Disk>⟧ A.start (saved ⟦<D as Disk>⟧ result.0.store) result.1 }
+    ensures recorded { IsTrue D.is_honest
+        → OnOk result.2 (HasEventsOf ⟦<D as Disk>⟧ A.start A.opening result.0.store result.1) }
 {
     let Ok((shares, talks)) = back else {
         return (shared.into_store(), Trail::new(), Err(AllocError));
@@ -242,9 +255,9 @@ struct Service<D: Disk, E> {
 }
 
 /// Opens the lock over a store, runs flusher and workers until the connections are served, and takes them in. At `Ok` workers took as many
-/// connections as they should, and all accepted events are durable. `Broken` says that a device had failed before the last commit, and broke the
-/// store. `DeviceFault` says that this commit failed; or that all accepted events are durable, and no more connections came. `OutOfMemory` says
-/// that memory was refused; all accepted events are durable then.
+/// connections as they should, and all accepted events are durable; each was accepted in one of the conversations. `Broken` says that a device
+/// had failed before the last commit, and broke the store. `DeviceFault` says that this commit failed; or that all accepted events are durable,
+/// and no more connections came. `OutOfMemory` says that memory was refused; all accepted events are durable then.
 ///
 /// It waits until so many connections were served.
 fn serve_by<
@@ -273,6 +286,7 @@ fn serve_by<
     ensures settled { OnOk result.ended (IsSettled ⟦<D as Disk>⟧ result.store) }
     ensures taken { OnOk result.ended (result.taken.count ≡ door.now.settings.connections) }
     ensures acked { AcksAreDurable ⟦<D as Disk>⟧ store result.store result.talks }
+    ensures recorded { OnOk result.ended (EventsAreRecorded ⟦<D as Disk>⟧ store result.store result.talks) }
     ensures cause { IfErr result.ended (EndsFor ⟦<D as Disk>⟧ door.now.settings store.devices result) }
 {
     let count = usize::from(door.settings.workers) + 1;
@@ -395,6 +409,7 @@ fn serve_and_print<
     ensures front { PrintsFrontOnErr ⟦<D as Disk>⟧ door.now.settings result.store output.old output.new result.ended }
     ensures taken { OnOk result.ended (result.taken.count ≡ door.now.settings.connections) }
     ensures acked { AcksAreDurable ⟦<D as Disk>⟧ store result.store result.talks }
+    ensures recorded { OnOk result.ended (EventsAreRecorded ⟦<D as Disk>⟧ store result.store result.talks) }
     ensures cause { IfErr result.ended (EndsByFault ⟦<D as Disk>⟧ door.now.settings store.devices output.old output.new result) }
 {
     let (pieces, acks) = match announce(rt, alloc, door, output) {
@@ -499,7 +514,8 @@ pub struct Outcome<D: Disk> {
 /// with the devices where they hold no store, a device or the output failed, no more connections came, or memory or room was refused,
 /// which is told among the faults. A connection that fails ends alone. Whatever ends it, no durable event is lost, and each image between two
 /// neighbouring moments has a front of the accepted events. All of them are durable unless a device failed. What each Ack in the conversations of
-/// `course` told a client is durable, whatever ended it. The store is opened with the frames of the settings and the greatest caps.
+/// `course` told a client is durable, whatever ended it. At status 0 each event that was accepted since the opening was accepted in these
+/// conversations. The store is opened with the frames of the settings and the greatest caps.
 ///
 /// It waits until so many connections were served.
 pub fn serve<

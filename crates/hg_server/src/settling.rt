@@ -1,6 +1,7 @@
 //! What a server does with its store when the connections are served.
 
-ghost use Rattle.std.specs.Prelude.{◌≡◌, ◌∷◌, IfErr, OnOk};
+ghost use Rattle.std.specs.Prelude.{◌≡◌, ◌∷◌, IfErr, IsOk, OnOk};
+ghost use Rattle.hg_store.specs.Shown.{live};
 ghost use Rattle.hg_server.specs.Settling.{IsCommitFault, IsSettled, KeepsDurable, SettlesOrBreaks, StillWentOn};
 
 use crate::fault::ServingFault;
@@ -32,6 +33,7 @@ fn commit_all<D: Disk>(
     ensures moment { moments.new ≡ store.old.devices ∷ moments.old }
     ensures settled { OnOk result (IsSettled ⟦<D as Disk>⟧ store.new) }
     ensures kept { KeepsDurable ⟦<D as Disk>⟧ store.old store.new }
+    ensures content { live ⟦<D as Disk>⟧ store.new ≡ live ⟦<D as Disk>⟧ store.old }
     ensures cause { IfErr result (IsCommitFault ⟦<D as Disk>⟧ store.old store.new) }
 {
     store.stands();
@@ -57,7 +59,9 @@ pub(crate) fn settle<D: Disk>(
     ensures moment { moments.new ≡ store.old.devices ∷ moments.old }
     ensures settled { OnOk result (IsSettled ⟦<D as Disk>⟧ store.new) }
     ensures kept { KeepsDurable ⟦<D as Disk>⟧ store.old store.new }
+    ensures content { live ⟦<D as Disk>⟧ store.new ≡ live ⟦<D as Disk>⟧ store.old }
     ensures all { OnOk result (taken.now.count ≡ connections) }
+    ensures gathered { OnOk result (IsOk taken_in) }
     ensures cause { IfErr result (SettlesOrBreaks ⟦<D as Disk>⟧ store.old store.new connections taken.now) }
 {
     commit_all(store, moments)?;

@@ -5,7 +5,8 @@ use Rattle.hg_store.proofs.Refusals.{is_not_opened, opened_with}
 use Rattle.hg_streams.specs.Written.{Took, TookFront}
 use Rattle.hg_server.specs.Serving.{Served, serving_by}
 use Rattle.hg_server.specs.Settling.{IsServingFault, IsSettled}
-use Rattle.hg_server.proofs.Acknowledged.{leaves_durable}
+use Rattle.hg_server.specs.Acknowledged.{AcksAreDurable, EventsAreRecorded}
+use Rattle.hg_server.proofs.Acknowledged.{leaves}
 use Rattle.hg_server.proofs.Leaving.{opened_settled, served, stopped_early, was_opened}
 use Rattle.hg_server.proofs.serving.recover_and_serve.Goals as goal
 
@@ -34,8 +35,8 @@ returns-in-Err-ended-clause-early g c =
     c.into_devices.result served.taken old new c.in-Err-ended.refusal (opened_with g.D.Disk start settings.frames c.profile.result c.profile.ensures c.in-Ok.ensures.limits)
     c.between-course.ensures.opened c.of-opened.ensures c.between-course.ensures.moments c.between-course.ensures.left c.between-course.ensures.taken c.into_devices.ensures
     c.in-Ok.ensures.device (λ honest. c.in-Ok.ensures.content honest) (λ honest. c.in-Ok.ensures.images honest) cause wrote
-    (leaves_durable g.D.Disk start served.store c.between-course.result c.of-opened.result served.talks c.between-course.ensures.opened c.of-opened.ensures c.between-course.ensures.talks
-    c.serve_and_print-store.ensures.acked))
+    (leaves g.D.Disk (λ s. AcksAreDurable g.D.Disk s served.store) start c.between-course.result c.of-opened.result served.talks c.between-course.ensures.opened c.of-opened.ensures
+    c.between-course.ensures.talks c.serve_and_print-store.ensures.acked))
 
 pub returns-in-Ok-ended-clause-well : goal.returns-in-Ok-ended-clause-well
 returns-in-Ok-ended-clause-well g c =
@@ -54,6 +55,8 @@ returns-in-Ok-ended-clause-well g c =
       served = subst (λ ms. IsTrue g.D.Disk.is_honest → Served g.D.Disk c.args.devices ms now.devices (live g.D.Disk now)) (sym c.between-course.ensures.moments)
           (served g.D.Disk c.args.devices start now result.moments went (λ honest. c.in-Ok.ensures.content honest) (λ honest. c.in-Ok.ensures.images honest));
       settled = subst (λ r. OnOk r (IsSettled g.D.Disk now)) c.in-Ok-ended.is c.serve_and_print-store.ensures.settled;
-      acked = leaves_durable g.D.Disk start now course c.of-opened.result result.talks c.between-course.ensures.opened c.of-opened.ensures c.between-course.ensures.talks
+      acked = leaves g.D.Disk (λ s. AcksAreDurable g.D.Disk s now) start course c.of-opened.result result.talks c.between-course.ensures.opened c.of-opened.ensures c.between-course.ensures.talks
           c.serve_and_print-store.ensures.acked;
+      recorded = leaves g.D.Disk (λ s. EventsAreRecorded g.D.Disk s now) start course c.of-opened.result result.talks c.between-course.ensures.opened c.of-opened.ensures c.between-course.ensures.talks
+          (subst (λ r. OnOk r (EventsAreRecorded g.D.Disk start now result.talks)) c.in-Ok-ended.is c.serve_and_print-store.ensures.recorded);
     }

@@ -6,7 +6,7 @@ use Rattle.hg_desk.proofs.Going.{went_nowhere}
 use Rattle.hg_server.specs.Settling.{IsSettled, SettlesOrBreaks, StopsFor}
 use Rattle.hg_server.specs.declared.fault.ServingFault.{ServingFault}
 use Rattle.hg_server.specs.Acknowledged.{TalksAreDurable}
-use Rattle.hg_server.proofs.Acknowledged.{none_durable, still_durable}
+use Rattle.hg_server.proofs.Acknowledged.{none_durable, still_durable, still_recorded}
 use Rattle.hg_server.proofs.Leaving.{if_err_weaker, stops_for}
 use Rattle.hg_server.proofs.serving.serve_by.Goals as goal
 
@@ -28,6 +28,13 @@ returns-clause-acked g c honest =
     let talks = c.take_in-back.result.1 in
     subst (λ (o : Option Began). TalksAreDurable g.D.Disk o left talks) c.requires.start
     (still_durable g.D.Disk g.A.Opening.start mid left talks (c.settle-ended.ensures.kept honest) (c.take_in-back.ensures.durable honest))
+
+pub returns-clause-recorded : goal.returns-clause-recorded
+returns-clause-recorded g c =
+    let taken_in = c.take_in-back.result in
+    let settled = c.settle-ended in
+    still_recorded g.D.Disk settled.result taken_in.2 g.A.Opening.start g.A.Column.opening c.args.store taken_in.0.store settled.new.store taken_in.1 c.requires.start c.requires.opening.0
+    settled.ensures.content settled.ensures.gathered (λ honest. c.take_in-back.ensures.recorded honest)
 
 pub returns-clause-went : goal.returns-clause-went
 returns-clause-went g c =

@@ -54,3 +54,9 @@ returns-in-Err-clause-cause g c =
     let new = c.commit-committed.new.self in
     let done = subst (λ r. ByCommit g.D.Disk old new r) c.in-Err.is c.commit-committed.ensures.done.answer in
     commit_fault g.D.Disk old new c.in-Err.refusal c.commit_fault.result done c.in-Err.ensures.device c.commit_fault.ensures.broken c.commit_fault.ensures.device
+
+pub returns-in-Ok-clause-content : goal.returns-in-Ok-clause-content
+returns-in-Ok-clause-content g c = ap (λ (d : detect.ShownDetector (pool.ShownPool g.row.D.Denot)). detect.content (pools.live g.D.Disk) d) c.commit-committed.ensures.done.detector
+
+pub returns-in-Err-clause-content : goal.returns-in-Err-clause-content
+returns-in-Err-clause-content g c = ap (λ (d : detect.ShownDetector (pool.ShownPool g.row.D.Denot)). detect.content (pools.live g.D.Disk) d) c.commit-committed.ensures.done.detector
