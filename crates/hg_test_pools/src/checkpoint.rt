@@ -42,11 +42,12 @@ fn write_waiting<D: Disk>(pool: &mut Pool<D>, most: usize) -> Result<(), Refusal
     Ok(())
 }
 
-/// Writes the rest of the pages that wait, seals them and opens their root.
+/// Writes the rest of the pages that wait, seals them and opens their root. A page that waits is in memory, or has a copy: a block that
+/// covers it takes it out of memory.
 fn end<D: Disk>(pool: &mut Pool<D>) -> Result<(), Refusal>
     ensures { (n m : ℕ) → AreWithin pool.old.frames n m → AreWithin pool.new.frames n m }
 {
-    write_waiting(pool, pool.frames())?;
+    write_waiting(pool, pool.frames().saturating_add(pool.copies()))?;
     if !pool.all_written() {
         return Err(Refusal::Broken);
     }
