@@ -105,7 +105,8 @@ def find_ordered(hgd: BareHgd, verdict: Verdict, source: Source, lists_all: bool
     if not lists_all:
         return output.Ordered(len(places), [])
     groups = [races for some in places.values() for races in some]
-    return output.Ordered(len(places), find_pairs(hgd, groups, bare.last, source, progress)[0])
+    # hgd took the same lines without the messages as with them
+    return output.Ordered(len(places), find_pairs(hgd, groups, verdict.last, source, progress)[0])
 
 
 def written(options, pairs: list[Pair], ordered: output.Ordered, verdict: Verdict) -> str:

@@ -103,7 +103,7 @@ def first_lines(pieces, most: int | None):
         if most is not None:
             count = piece.count(b"\n") + (not piece.endswith(b"\n"))
             if count > most:
-                yield b"".join(piece.splitlines(True)[:most]) if most else b""
+                yield b"".join(line + b"\n" for line in piece.split(b"\n", most)[:most])
                 return
             most -= count
         yield piece
