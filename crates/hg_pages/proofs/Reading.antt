@@ -1,15 +1,14 @@
 -- A slot is read: one cell more, and all of them.
-use Rattle.std.proofs.Common.{◌≡◌, ◌⊎◌, inl, inr, ◌<◌, ◌+◌, ◌^◌, ◌&&◌, ◌||◌, ◌∙◌, ℕ, suc, Bool, true, false, IsTrue, List, [], ◌∷◌, length, take, set, get_or, refl, sym, ap, subst, nat_le, if◌then◌else◌, rules, arith, ⊎_elim}
+use Rattle.std.proofs.Common.{◌≡◌, ◌⊎◌, inl, inr, ◌<◌, ◌≤◌, ◌+◌, ◌^◌, ◌&&◌, ◌||◌, ◌∙◌, ℕ, suc, Bool, true, false, IsTrue, List, [], ◌∷◌, length, take, set, get_or, refl, sym, ap, subst, rules, arith, ⊎_elim}
 use Rattle.std.specs.List.{flat_map, AllByRecursion}
 use Rattle.hg_cells.specs.declared.cell.Cell.{Cell}
 use Rattle.hg_cells.specs.declared.cell.Cell.TheVariants.{New, Exclusive, SharedRead, SharedModified}
 use Rattle.hg_cells.specs.Cells.{IsWithin}
 use Rattle.hg_pages.specs.Reading.{cell_bytes, number_at, text_of}
-use Rattle.hg_pages.specs.Numbers.{AreOfNoneWithin, AreRead, HasThreadSet, HaveThreadSets, IsSharedBy, LacksThreadSet, SpellsNoneWithin, SpellsWithin, cell_by, threads_in_or}
+use Rattle.hg_pages.specs.Numbers.{AreOfNoneWithin, AreRead, HasThreadSet, HasThreads, HaveThreadSets, HasNoShared, IsSharedBy, LacksThreadSet, SpellsNoneWithin, SpellsWithin, cell_by}
 use Rattle.hg_pages.specs.Slots.{AreKnown, CellFits, IsKnown, IsNoKnownSlot, IsSlot, IsThreadSet, cell_text}
 use Rattle.std.proofs.lemmas.Nat.{from_be_bytes-to_be_bytes_4}
 use Rattle.std.specs.Int.{w64, to_be_bytes}
-use Rattle.std.proofs.lemmas.Bool.{le-leb, leb-true}
 use Rattle.std.proofs.lemmas.List.{take_all}
 use Rattle.hg_pages.proofs.Decoding.{cell_bytes_are, compared, each_at, each_set, spelled_more}
 use Rattle.hg_pages.proofs.Searching.{less_or_last}
@@ -65,12 +64,11 @@ each_within segments sets [] known = tt
 each_within segments sets (c ∷ cells) known = (within_known segments sets c known.0, each_within segments sets cells known.1)
 
 -- the threads of a shared cell, by its bytes
-has_set : (sets : List (List ℕ)) (segments : ℕ) (c : Cell) (bytes : List ℕ) → bytes ≡ cell_text c → CellFits c → IsWithin segments (length sets) c
-    → ((threads : ℕ) → IsSharedBy threads bytes → threads < length sets → IsThreadSet sets threads) → HasThreadSet sets c
-has_set sets segments New bytes text fits within each = tt
-has_set sets segments (Exclusive segment) bytes text fits within each = tt
-has_set sets segments (SharedRead threads locks) bytes text fits within each = each threads (subst (IsSharedBy threads) (sym text) (omega arith, from_be_bytes-to_be_bytes_4 threads fits.0)) within.0
-has_set sets segments (SharedModified threads locks) bytes text fits within each = each threads (subst (IsSharedBy threads) (sym text) (omega arith, from_be_bytes-to_be_bytes_4 threads fits.0)) within.0
+has_set : (sets : List (List ℕ)) (c : Cell) (bytes : List ℕ) → bytes ≡ cell_text c → CellFits c → HasThreads sets bytes → HasThreadSet sets c
+has_set sets New bytes text fits each = tt
+has_set sets (Exclusive segment) bytes text fits each = tt
+has_set sets (SharedRead threads locks) bytes text fits each = each threads (subst (IsSharedBy threads) (sym text) (omega arith, from_be_bytes-to_be_bytes_4 threads fits.0))
+has_set sets (SharedModified threads locks) bytes text fits each = each threads (subst (IsSharedBy threads) (sym text) (omega arith, from_be_bytes-to_be_bytes_4 threads fits.0))
 
 pub all_known : (bytes : List ℕ) (page segments : ℕ) (sets : List (List ℕ)) (cells : List Cell) → IsSlot page cells bytes → AllByRecursion (IsWithin segments (length sets)) cells → HaveThreadSets sets 256 bytes → AreKnown segments sets cells
 all_known bytes page segments sets cells is within have =
@@ -78,7 +76,7 @@ all_known bytes page segments sets cells is within have =
     let below : i < 256 = omega (arith, lt, is.page_is.words) in
     let inside = each_at (IsWithin segments (length sets)) cells i lt within in
     joined segments sets (get_or cells i New) inside
-    (has_set sets segments (get_or cells i New) (cell_bytes bytes i) (cell_bytes_are page cells bytes i below is) (each_at CellFits cells i lt is.page_is.fit) inside (λ threads by small. have i threads below by small)))
+    (has_set sets (get_or cells i New) (cell_bytes bytes i) (cell_bytes_are page cells bytes i below is) (each_at CellFits cells i lt is.page_is.fit) (have i below)))
 
 -- a cell with these bytes is not known if its threads can't be shared
 no_set : (sets : List (List ℕ)) (segments threads : ℕ) (c : Cell) (bytes : List ℕ) → bytes ≡ cell_text c → CellFits c → IsSharedBy threads bytes → IsKnown segments sets c → IsThreadSet sets threads
@@ -93,8 +91,8 @@ no_set sets segments threads c bytes text fits by known = here c fits known (sub
 pub none_known : (bytes : List ℕ) (page segments : ℕ) (sets : List (List ℕ)) → LacksThreadSet sets bytes → IsNoKnownSlot page segments sets bytes
 none_known bytes page segments sets lacks cells is known =
     let word = lacks.0 in
-    let inside : word < length cells = omega (arith, lacks.2, is.page_is.words) in
-    lacks.4 (no_set sets segments lacks.1 (get_or cells word New) (cell_bytes bytes word) (cell_bytes_are page cells bytes word lacks.2 is) (each_at CellFits cells word inside is.page_is.fit) lacks.3 (each_at (IsKnown segments sets) cells word inside known))
+    let inside : word < length cells = omega (arith, lacks.1, is.page_is.words) in
+    lacks.2 (λ threads by. no_set sets segments threads (get_or cells word New) (cell_bytes bytes word) (cell_bytes_are page cells bytes word lacks.1 is) (each_at CellFits cells word inside is.page_is.fit) by (each_at (IsKnown segments sets) cells word inside known))
 
 -- all cells are read
 pub slot_read : (bytes : List ℕ) (page segments : ℕ) (sets : List (List ℕ)) (cells : List Cell) → page < 2 ^ 54 → length bytes ≡ 3080 → length cells ≡ 256 → to_be_bytes w64 page ≡ take 8 bytes → AreRead segments (length sets) 256 bytes cells
@@ -107,42 +105,20 @@ slot_read bytes page segments sets cells below size words number read have =
     } in
     (is, all_known bytes page segments sets cells is (subst (λ (l : List Cell). AllByRecursion (IsWithin segments (length sets)) l) all read.within) have)
 
--- the threads of one cell more
-shared : (part : List ℕ) (threads before : ℕ) → threads ≡ threads_in_or part before → (IsSharedBy threads part) ⊎ (threads ≡ before)
-shared part threads before is = by (nat_le 2 (get_or part 0 0)) refl is
-  where
-    by : (b : Bool) → nat_le 2 (get_or part 0 0) ≡ b → threads ≡ (if b then number_at part 4 else before) → (IsSharedBy threads part) ⊎ (threads ≡ before)
-    by true test is = inl (leb-true 2 (get_or part 0 0) test, sym is)
-    by false test is = inr is
-
-pub lacks : (bytes : List ℕ) (sets : List (List ℕ)) (word threads before : ℕ) → word < 256 → threads ≡ threads_in_or (cell_bytes bytes word) before → ¬ ((threads ≡ before) ⊎ IsThreadSet sets threads)
-    → LacksThreadSet sets bytes
-lacks bytes sets word threads before lt is not =
-    ⊎_elim (λ (by : IsSharedBy threads (cell_bytes bytes word)). (word, threads, lt, by, λ set. not (inr set)))
-    (λ (same : threads ≡ before). absurd (not (inl same)))
-    (shared (cell_bytes bytes word) threads before is)
-
--- what is known of the threads before, of these too
-pub set_or_none : (sets : List (List ℕ)) (threads before : ℕ) → (before ≡ 4294967295) ⊎ IsThreadSet sets before → (threads ≡ before) ⊎ IsThreadSet sets threads → (threads ≡ 4294967295) ⊎ IsThreadSet sets threads
-set_or_none sets threads before was set =
-    ⊎_elim (λ (same : threads ≡ before). subst (λ (n : ℕ). (n ≡ 4294967295) ⊎ IsThreadSet sets n) (sym same) was)
-    (λ (is_set : IsThreadSet sets threads). inr is_set)
-    set
-
-pub sets_more : (bytes : List ℕ) (sets : List (List ℕ)) (word threads before : ℕ) → length sets < 2 ^ 32 → threads ≡ threads_in_or (cell_bytes bytes word) before → (threads ≡ 4294967295) ⊎ IsThreadSet sets threads → HaveThreadSets sets word bytes
-    → HaveThreadSets sets (word + 1) bytes
-sets_more bytes sets word threads before few is set have other found lt by small =
-    ⊎_elim (λ (less : other < word). have other found less by small)
-    (λ (last : other ≡ word). here (subst (λ (n : ℕ). IsSharedBy found (cell_bytes bytes n)) last by))
+-- of one cell more it is known whether its threads can be
+pub sets_more : (bytes : List ℕ) (sets : List (List ℕ)) (word : ℕ) → HaveThreadSets sets word bytes → HasThreads sets (cell_bytes bytes word) → HaveThreadSets sets (word + 1) bytes
+sets_more bytes sets word have here other lt =
+    ⊎_elim (λ (less : other < word). have other less)
+    (λ (last : other ≡ word). subst (λ (n : ℕ). HasThreads sets (cell_bytes bytes n)) (sym last) here)
     (less_or_last other word lt)
-  where
-    here : IsSharedBy found (cell_bytes bytes word) → IsThreadSet sets found
-    here by =
-        let same : threads ≡ found = is ∙ given (nat_le 2 (get_or (cell_bytes bytes word) 0 0)) (le-leb 2 (get_or (cell_bytes bytes word) 0 0) by.0) ∙ by.1 in
-        ⊎_elim (λ (none : threads ≡ 4294967295). absurd (omega (arith, few, small, none, same)))
-        (λ (is_set : IsThreadSet sets threads). subst (IsThreadSet sets) same is_set)
-        set
-      where
-        given : (b : Bool) → b ≡ true → (if b then number_at (cell_bytes bytes word) 4 else before) ≡ number_at (cell_bytes bytes word) 4
-        given true test = refl
-        given false test = absurd (cc test)
+
+-- and whether it is shared
+pub none_shared_more : (bytes : List ℕ) (word : ℕ) → HasNoShared word bytes → (33554432 ≤ number_at (cell_bytes bytes word) 0 → ⊥) → HasNoShared (word + 1) bytes
+none_shared_more bytes word before here other lt shared =
+    ⊎_elim (λ (less : other < word). before other less shared)
+    (λ (last : other ≡ word). here (subst (λ (n : ℕ). 33554432 ≤ number_at (cell_bytes bytes n) 0) last shared))
+    (less_or_last other word lt)
+
+-- where none is shared, the threads of each can be
+pub sets_of_none : (bytes : List ℕ) (sets : List (List ℕ)) → HasNoShared 256 bytes → HaveThreadSets sets 256 bytes
+sets_of_none bytes sets none word lt threads by = absurd (none word lt by.0)

@@ -1,5 +1,5 @@
 -- A cell as three numbers of four bytes each: how a page is written and read. No promise to a caller rests on this.
-use Rattle.std.specs.Prelude.{◌≡◌, ◌⊎◌, ◌<◌, ◌≤◌, ◌+◌, ◌*◌, ◌==◌, ℕ, nat_le, List, length, take, drop, get_or, if◌then◌else◌}
+use Rattle.std.specs.Prelude.{◌≡◌, ◌⊎◌, ◌<◌, ◌≤◌, ◌+◌, ◌*◌, ◌==◌, ℕ, nat_le, List, take, drop, if◌then◌else◌}
 use Rattle.std.specs.List.{flat_map, AllByRecursion}
 use Rattle.hg_cells.specs.declared.cell.Cell.{Cell}
 use Rattle.hg_cells.specs.declared.cell.Cell.TheVariants.{New, Exclusive, SharedRead, SharedModified}
@@ -67,13 +67,13 @@ SpellsWithin segments sets numbers = (text_of numbers ≡ cell_text (cell_by num
 abbrev pub SpellsNoneWithin : (segments sets : ℕ) → ℕ × ℕ × ℕ → Type 0
 SpellsNoneWithin segments sets numbers = (cell : Cell) → CellFits cell → text_of numbers ≡ cell_text cell → ¬ IsWithin segments sets cell
 
--- the set of threads of a shared cell with these bytes, else another number
-abbrev pub threads_in_or : List ℕ → ℕ → ℕ
-threads_in_or bytes others = if nat_le 2 (get_or bytes 0 0) then number_at bytes 4 else others
-
 -- The bytes are those of a shared cell, with these threads.
 abbrev pub IsSharedBy : ℕ → List ℕ → Type 0
-IsSharedBy threads bytes = (2 ≤ get_or bytes 0 0) × (number_at bytes 4 ≡ threads)
+IsSharedBy threads bytes = (33554432 ≤ number_at bytes 0) × (number_at bytes 4 ≡ threads)
+
+-- The threads that these bytes spell, if they are those of a shared cell, are a set that can be shared.
+abbrev pub HasThreads : List (List ℕ) → List ℕ → Type 0
+HasThreads sets bytes = (threads : ℕ) → IsSharedBy threads bytes → IsThreadSet sets threads
 
 -- The threads of a shared cell are a set that can be shared.
 abbrev pub HasThreadSet : List (List ℕ) → Cell → Type 0
@@ -92,14 +92,14 @@ pub record AreRead (segments sets count : ℕ) (bytes : List ℕ) (cells : List 
 abbrev pub AreOfNoneWithin : (segments sets : ℕ) → List ℕ → Type 0
 AreOfNoneWithin segments sets bytes = (page : ℕ) (cells : List Cell) → IsSlot page cells bytes → ¬ AllByRecursion (IsWithin segments sets) cells
 
--- Each shared cell of a slot, of the first ones, has threads that can be shared, if the table has the set.
+-- Each shared cell of a slot, of the first ones, has threads that can be shared.
 abbrev pub HaveThreadSets : List (List ℕ) → (count : ℕ) → List ℕ → Type 0
-HaveThreadSets sets count bytes = (word threads : ℕ) → word < count → IsSharedBy threads (cell_bytes bytes word) → threads < length sets → IsThreadSet sets threads
+HaveThreadSets sets count bytes = (word : ℕ) → word < count → HasThreads sets (cell_bytes bytes word)
 
 -- No cell of a slot, of the first ones, is shared.
 abbrev pub HasNoShared : (count : ℕ) → List ℕ → Type 0
-HasNoShared count bytes = (word : ℕ) → word < count → 2 ≤ get_or (cell_bytes bytes word) 0 0 → ⊥
+HasNoShared count bytes = (word : ℕ) → word < count → 33554432 ≤ number_at (cell_bytes bytes word) 0 → ⊥
 
 -- A shared cell of a slot has threads that can't be shared.
 abbrev pub LacksThreadSet : List (List ℕ) → List ℕ → Type 0
-LacksThreadSet sets bytes = (word : ℕ) × (threads : ℕ) × (word < 256) × IsSharedBy threads (cell_bytes bytes word) × (¬ IsThreadSet sets threads)
+LacksThreadSet sets bytes = (word : ℕ) × (word < 256) × (¬ HasThreads sets (cell_bytes bytes word))

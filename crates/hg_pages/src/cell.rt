@@ -1,7 +1,7 @@
 //! A cell as twelve bytes, and back.
 ghost use Rattle.std.specs.Prelude.{◌≡◌, ◌+◌, ◌≤◌, ◌↔◌, ◌==◌, get_or, length, false, IsTrue, if◌then◌else◌};
 ghost use Rattle.std.specs.Int.{from_be_bytes};
-ghost use Rattle.hg_pages.specs.Numbers.{SpellNew, SpellOwned, SpellShared, SpellsNoneWithin, SpellsWithin, cell_by, first_in, kind_in, mark_in, second_in, threads_in_or};
+ghost use Rattle.hg_pages.specs.Numbers.{SpellNew, SpellOwned, SpellShared, SpellsNoneWithin, SpellsWithin, HasThreads, cell_by, first_in, kind_in, mark_in, second_in};
 ghost use Rattle.hg_pages.specs.Reading.{number_at, text_of};
 ghost use Rattle.hg_pages.specs.Slots.{CellFits, IsThreadSet, cell_text};
 
@@ -113,7 +113,8 @@ fn number(bytes: &[u8], at: usize) -> u32
 #[inline(always)]
 pub(crate) fn numbers_in(bytes: &[u8]) -> (u32, u32, u32)
     requires { length bytes.now ≡ CELL_LEN }
-    ensures { text_of result ≡ bytes.now }
+    ensures text { text_of result ≡ bytes.now }
+    ensures head { result.0 ≡ number_at bytes.now 0 }
 {
     (number(bytes, 0), number(bytes, 4), number(bytes, 8))
 }
@@ -192,32 +193,35 @@ pub(crate) fn cell_from(numbers: (u32, u32, u32)) -> Cell
     if head >= READ { shared } else { other }
 }
 
-/// Whether a cell that is spelled so is shared.
+/// Whether a cell with these numbers is shared, if they spell one.
 #[inline(always)]
-pub(crate) fn is_shared(bytes: &[u8]) -> bool
-    requires { length bytes.now ≡ CELL_LEN }
-    ensures { IsTrue result ↔ (2 ≤ get_or bytes.now 0 0) }
+pub(crate) fn are_of_shared(numbers: (u32, u32, u32)) -> bool
+    ensures { IsTrue result ↔ (0x200_0000 ≤ numbers.0) }
 {
-    bytes[0] >= 2
+    numbers.0 >= READ
 }
 
-/// The set of threads of a cell that is spelled so, if it is shared, or else these.
+// Whether this set can be the set of threads of a shared word.
 #[inline(always)]
-pub(crate) fn threads_or(bytes: &[u8], others: u32) -> u32
-    requires { length bytes.now ≡ CELL_LEN }
-    ensures { result ≡ threads_in_or bytes.now others }
-{
-    let threads = number(bytes, 4);
-    if bytes[0] >= 2 { threads } else { others }
-}
-
-/// Whether this set can be the set of threads of a shared word.
-pub(crate) fn is_thread_set(sets: &SetTable, id: u32) -> bool
+fn is_thread_set(sets: &SetTable, id: u32) -> bool
     ensures { IsTrue result ↔ IsThreadSet sets.now.sets id }
 {
     if id >= sets.len() {
         return false;
     }
     let (size, greatest) = sets.size_and_greatest(id);
-    size >= 2 && greatest <= GREATEST_THREAD
+    (size >= 2) & (greatest <= GREATEST_THREAD)
+}
+
+/// Whether the threads of a cell that is spelled so can be, if it is shared. The table is asked for each cell, for the empty set
+/// where it is not shared: which kind of cell comes next can't be foreseen.
+#[inline(always)]
+pub(crate) fn has_threads(bytes: &[u8], sets: &SetTable) -> bool
+    requires { length bytes.now ≡ CELL_LEN }
+    ensures { IsTrue result ↔ HasThreads sets.now.sets bytes.now }
+{
+    let is_shared = number(bytes, 0) >= READ;
+    let threads = if is_shared { number(bytes, 4) } else { 0 };
+    let is_set = is_thread_set(sets, threads);
+    !is_shared | is_set
 }

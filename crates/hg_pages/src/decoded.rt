@@ -5,9 +5,7 @@ ghost use Rattle.hg_pages.specs.Numbers.{AreOfNoneWithin, AreRead, HasNoShared, 
 ghost use Rattle.hg_pages.specs.Reading.{cell_bytes};
 ghost use Rattle.hg_pages.specs.Slots.{AreKnown, IsNoKnownSlot, IsSlot, IsThreadSet};
 
-use crate::cell::{
-    CELL_LEN, cell_from, is_shared, is_thread_set, numbers_in, spell_within, threads_or,
-};
+use crate::cell::{CELL_LEN, are_of_shared, cell_from, has_threads, numbers_in, spell_within};
 use crate::encoded::SLOT_LEN;
 use hg_cells::{PAGE_WORDS, Page};
 use hg_sets::SetTable;
@@ -17,9 +15,6 @@ pub const MOST_PAGES: u64 = 1 << 54;
 
 // Where the cells begin, behind the number of the page.
 const CELLS_AT: usize = 8;
-
-// The number of no set: a table has fewer.
-const NO_SET: u32 = u32::MAX;
 
 /// The number of the page, as the bytes have it.
 pub(crate) fn page_in(bytes: &[u8]) -> u64
@@ -62,8 +57,12 @@ pub(crate) fn decode_into(
     if page >= MOST_PAGES || page_in(bytes) != page {
         return false;
     }
-    if !read_cells(bytes, segments, sets.len(), cells) {
+    let (are_right, has_shared) = read_cells(bytes, segments, sets.len(), cells);
+    if !are_right {
         return false;
+    }
+    if !has_shared {
+        return true;
     }
     have_thread_sets(bytes, sets)
 }
@@ -80,53 +79,31 @@ fn cell_part(bytes: &[u8], word: usize) -> &[u8]
     &bytes[at..at + CELL_LEN]
 }
 
-// Reads each cell, and answers whether each is spelled right and names only segments and sets below these numbers. No cell is
-// looked at twice, and no branch depends on one: the compiler takes four cells at a time.
+// Reads each cell, and answers whether each is spelled right and names only segments and sets below these numbers, and whether
+// some cell is shared. No cell is looked at twice, and no branch depends on one: the compiler takes four cells at a time.
 #[inline(always)]
-fn read_cells(bytes: &[u8], segments: u32, sets: u32, cells: &mut Page) -> bool
+fn read_cells(bytes: &[u8], segments: u32, sets: u32, cells: &mut Page) -> (bool, bool)
     requires { length bytes.now ≡ SLOT_LEN }
     ensures words { length cells.new ≡ 256 }
-    ensures read { IsTrue result → AreRead segments sets 256 bytes.now cells.new }
-    ensures none { result ≡ false → AreOfNoneWithin segments sets bytes.now }
+    ensures read { IsTrue result.0 → AreRead segments sets 256 bytes.now cells.new }
+    ensures none { result.0 ≡ false → AreOfNoneWithin segments sets bytes.now }
+    ensures shared { result.1 ≡ false → HasNoShared 256 bytes.now }
 {
     let _lowest = cells.get(0);
     let mut are_right = true;
+    let mut has_shared = false;
     for word in 0..PAGE_WORDS {
         let numbers = numbers_in(cell_part(bytes, word));
         let is_right = spell_within(numbers, segments, sets);
+        let is_shared = are_of_shared(numbers);
         are_right = are_right & is_right;
+        has_shared = has_shared | is_shared;
         cells.set(word, cell_from(numbers));
     }
-    are_right
+    (are_right, has_shared)
 }
 
-// Whether a set is the one before, or a set of threads.
-#[inline(always)]
-fn is_before_or_thread_set(sets: &SetTable, id: u32, before: u32) -> bool
-    ensures { IsTrue result ↔ (id ≡ before) ⊎ IsThreadSet sets.now.sets id }
-{
-    if id == before {
-        return true;
-    }
-    is_thread_set(sets, id)
-}
-
-// Whether some cell is shared.
-#[inline(always)]
-fn has_shared(bytes: &[u8]) -> bool
-    requires { length bytes.now ≡ SLOT_LEN }
-    ensures { result ≡ false → HasNoShared 256 bytes.now }
-{
-    let mut has_one = false;
-    for word in 0..PAGE_WORDS {
-        let is_one = is_shared(cell_part(bytes, word));
-        has_one = has_one | is_one;
-    }
-    has_one
-}
-
-// Whether the threads of each shared cell can be. Those of the shared cell before stand for a cell that is not shared, and the table
-// is asked only where they change from one cell to the next: most pages have one set of threads, or a few.
+// Whether the threads of each shared cell can be. No branch depends on a cell.
 #[inline(always)]
 fn have_thread_sets(bytes: &[u8], sets: &SetTable) -> bool
     requires { length bytes.now ≡ SLOT_LEN }
@@ -134,16 +111,10 @@ fn have_thread_sets(bytes: &[u8], sets: &SetTable) -> bool
     ensures no { result ≡ false → LacksThreadSet sets.now.sets bytes.now }
 {
     let _sets = sets.len();
-    if !has_shared(bytes) {
-        return true;
-    }
-    let mut threads = NO_SET;
+    let mut have_all = true;
     for word in 0..PAGE_WORDS {
-        let before = threads;
-        threads = threads_or(cell_part(bytes, word), before);
-        if !is_before_or_thread_set(sets, threads, before) {
-            return false;
-        }
+        let has_one = has_threads(cell_part(bytes, word), sets);
+        have_all = have_all & has_one;
     }
-    true
+    have_all
 }
