@@ -224,13 +224,13 @@ module _ {D : Type 0} (g : disk.Ghosts D) where
     pub none_of : 1 ≤ length (rest_of r) → ((named : Named) (tail : List ℕ) → BeginsWith (rest_of r) named tail → ⊥) → (events : List Named) → IsJournal (g.state (disk_of old)).contents events → ⊥
     none_of some none = by_present h.present h.one h.split h.has.reads.has
       where
-        by_present : (present : List (List ℕ)) → length present ≤ 1 → bytes_of present ≡ batch_text h.read ++ rest_of r → IsLog (g.state (disk_of old)).contents ((map batch_text h.past ++ present) ++ h.later)
+        by_present : (present : List (List ℕ)) → length present ≤ 1 → bytes_of present ≡ batch_text h.read ++ rest_of r → IsLog header (g.state (disk_of old)).contents ((map batch_text h.past ++ present) ++ h.later)
             → (events : List Named) → IsJournal (g.state (disk_of old)).contents events → ⊥
         by_present [] one split has events is = absurd (omega (arith, some, ap length split, length-append (batch_text h.read) (rest_of r)))
         by_present (b ∷ []) one split has events is =
             let body : b ≡ batch_text h.read ++ rest_of r = sym (append-nil b) ∙ split in
             no_journal (g.state (disk_of old)).contents (map batch_text h.past) h.read (rest_of r) h.later
-            (subst (λ (l : List ℕ). IsLog (g.state (disk_of old)).contents ((map batch_text h.past ++ l ∷ []) ++ h.later)) body has)
+            (subst (λ (l : List ℕ). IsLog header (g.state (disk_of old)).contents ((map batch_text h.past ++ l ∷ []) ++ h.later)) body has)
             (fits_back (events_of h.past) h.read (subst (AllByRecursion RecordFits) h.whole h.fits)) some none events is
         by_present (b ∷ c ∷ present) one split has events is = absurd (omega (arith, one))
 
