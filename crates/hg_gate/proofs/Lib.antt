@@ -1,4 +1,5 @@
 pub mod Appending
+pub mod Basing
 pub mod Crash
 pub mod Gates
 pub mod Grammar

@@ -1,13 +1,13 @@
 -- A walk over the batches of a log.
 use Rattle.std.proofs.Common.{◌≡◌, ◌≢◌, ◌≤◌, ◌+◌, ℕ, Result, IsErrOf, IfErr, List, [], ◌∷◌, ◌++◌, length, take, drop, refl, sym, ◌∙◌, ap, subst, arith, append_assoc, length-append, take-append-drop}
-use Rattle.std.proofs.lemmas.List.{drop_at, length-take-le, append_cancel_left}
+use Rattle.std.proofs.lemmas.List.{drop_at, length-take-le}
 use Rattle.std.specs.List.{flat_map, AllByRecursion}
 use Rattle.std.specs.Int.{w32, to_be_bytes}
 use Rattle.hg_disk.specs.declared.disk.Disk as disk
 use Rattle.hg_disk.specs.State.{DiskState, IsImage}
 use Rattle.hg_disk.specs.Moments.{LeavesOnly}
 use Rattle.hg_disk.proofs.Moments.{joined}
-use Rattle.hg_gate.specs.Batches.{header, open_gate, IsBody, IsBodyLength, IsClosed, sized, batch, spelled, IsLog}
+use Rattle.hg_gate.specs.Batches.{open_gate, IsBody, IsBodyLength, IsClosed, sized, batch}
 use Rattle.hg_gate.specs.Reading.{WasRead}
 use Rattle.hg_gate.specs.Scan.{EndsAt, IsTail, IsOpen, Walked}
 use Rattle.hg_gate.proofs.Crash.{spelled_push, each_push}
@@ -59,22 +59,22 @@ first_of bytes n o =
       is_body = subst IsBodyLength (sym size) o.is_length;
     }
 
-module _ (file : List ℕ) (at n : ℕ) (w : Walked file at) (o : IsOpen (drop at file) n) where
-  first : First (drop at file) n
-  first = first_of (drop at file) n o
+module _ (bytes : List ℕ) (at n : ℕ) (w : Walked bytes at) (o : IsOpen (drop at bytes) n) where
+  first : First (drop at bytes) n
+  first = first_of (drop at bytes) n o
 
-  one_more : file ≡ spelled (w.bodies ++ first.body ∷ []) ++ first.more
-  one_more = w.front ∙ ap (λ (l : List ℕ). spelled w.bodies ++ l) first.spelling ∙ sym (spelled_push w.bodies first.body first.more)
+  one_more : bytes ≡ flat_map batch (w.bodies ++ first.body ∷ []) ++ first.more
+  one_more = w.first ∙ ap (λ (l : List ℕ). flat_map batch w.bodies ++ l) first.spelling ∙ sym (spelled_push [] w.bodies first.body first.more)
 
-  new_place : at + (5 + n) ≡ length (spelled (w.bodies ++ first.body ∷ []))
+  new_place : at + (5 + n) ≡ length (flat_map batch (w.bodies ++ first.body ∷ []))
   new_place = omega (arith, w.place, first.size, push_length w.bodies first.body)
 
   -- one batch more
-  pub walk_on : Walked file (at + (5 + n))
+  pub walk_on : Walked bytes (at + (5 + n))
   walk_on = record {
     bodies = w.bodies ++ first.body ∷ [];
     place = new_place;
-    front = one_more ∙ ap (λ (l : List ℕ). spelled (w.bodies ++ first.body ∷ []) ++ l) (sym (ap (λ (l : List ℕ). drop (at + (5 + n)) l) one_more ∙ drop_at (spelled (w.bodies ++ first.body ∷ [])) first.more (at + (5 + n)) (sym new_place)));
+    first = one_more ∙ ap (λ (l : List ℕ). flat_map batch (w.bodies ++ first.body ∷ []) ++ l) (sym (ap (λ (l : List ℕ). drop (at + (5 + n)) l) one_more ∙ drop_at (flat_map batch (w.bodies ++ first.body ∷ [])) first.more (at + (5 + n)) (sym new_place)));
     each = each_push w.bodies first.body w.each first.is_body;
   }
 
@@ -106,25 +106,23 @@ strip (s ∷ seen) (b ∷ bodies) tail gate rest each_seen each closed is =
     record { more = left.more; all = λ i. both.front i ∷ left.all i; is_tail = left.is_tail }
 
 -- what stands behind the walk
-pub left_of : (file : List ℕ) (at : ℕ) (bodies : List (List ℕ)) (w : Walked file at) → IsLog file bodies → Left w.bodies bodies (drop at file)
-left_of file at bodies w has =
-    strip w.bodies bodies (drop at file) has.gate has.rest w.each has.each has.closed
-    (append_cancel_left header _ _ (sym (append_assoc header (flat_map batch bodies) (has.gate ∷ has.rest)) ∙ sym has.spelling ∙ w.front ∙ append_assoc header (flat_map batch w.bodies) (drop at file)))
+pub left_of : (bytes : List ℕ) (at : ℕ) (bodies : List (List ℕ)) (w : Walked bytes at) → IsTail bytes bodies → Left w.bodies bodies (drop at bytes)
+left_of bytes at bodies w has = strip w.bodies bodies (drop at bytes) has.gate has.rest w.each has.each has.closed (sym has.spelling ∙ w.first)
 
 -- a walk has passed no more batches than there are
-pub few_walked : (file : List ℕ) (at : ℕ) (bodies : List (List ℕ)) (w : Walked file at) → IsLog file bodies → length w.bodies ≤ length bodies
-few_walked file at bodies w has =
-    let left = left_of file at bodies w has in
+pub few_walked : (bytes : List ℕ) (at : ℕ) (bodies : List (List ℕ)) (w : Walked bytes at) → IsTail bytes bodies → length w.bodies ≤ length bodies
+few_walked bytes at bodies w has =
+    let left = left_of bytes at bodies w has in
     omega (arith, ap (λ (l : List (List ℕ)). length l) left.all, length-append w.bodies left.more)
 
-pub no_log : (file : List ℕ) (at : ℕ) → Walked file at → ((bodies : List (List ℕ)) → IsTail (drop at file) bodies → ⊥) → (bodies : List (List ℕ)) → IsLog file bodies → ⊥
-no_log file at w none bodies has = let left = left_of file at bodies w has in none left.more left.is_tail
+pub no_tail : (bytes : List ℕ) (at : ℕ) → Walked bytes at → ((bodies : List (List ℕ)) → IsTail (drop at bytes) bodies → ⊥) → (bodies : List (List ℕ)) → IsTail bytes bodies → ⊥
+no_tail bytes at w none bodies has = let left = left_of bytes at bodies w has in none left.more left.is_tail
 
 -- a walk up to a closed gate
-pub ends : (file : List ℕ) (at : ℕ) → Walked file at → IsClosed (drop at file) → EndsAt file at
-ends file at w closed = record {
+pub ends : (bytes : List ℕ) (at : ℕ) → Walked bytes at → IsClosed (drop at bytes) → EndsAt bytes at
+ends bytes at w closed = record {
   bodies = w.bodies;
-  has = record { gate = closed.gate; rest = closed.rest; spelling = w.front ∙ ap (λ (l : List ℕ). spelled w.bodies ++ l) closed.spelling; closed = closed.closed; each = w.each };
+  has = record { gate = closed.gate; rest = closed.rest; spelling = w.first ∙ ap (λ (l : List ℕ). flat_map batch w.bodies ++ l) closed.spelling; closed = closed.closed; each = w.each };
   place = w.place;
 }
 

@@ -1,3 +1,4 @@
+pub mod Based
 pub mod Batch
 pub mod Batches
 pub mod Fault

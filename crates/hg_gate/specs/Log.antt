@@ -7,7 +7,7 @@ use Rattle.hg_gate.specs.declared.fault.GateFault.{GateFault}
 use Rattle.hg_gate.specs.declared.fault.GateFault.TheVariants.{Damaged, DeviceFault, OutOfMemory}
 use Rattle.hg_gate.specs.declared.log.Log.{Log}
 use Rattle.hg_gate.specs.Fault.{after_fault}
-use Rattle.hg_gate.specs.Batches.{IsBeforeOrAfter, IsLog, IsNoLog, LeavesLog, closed_gate, header, spelled}
+use Rattle.hg_gate.specs.Batches.{IsBeforeOrAfter, IsLog, IsNoLog, LeavesLog, closed_gate, spelled}
 
 module _ {D : Type 0} {g : disk.Ghosts D} where
   abbrev pub disk_of : Log D g → D
@@ -17,43 +17,60 @@ module _ {D : Type 0} {g : disk.Ghosts D} where
   abbrev pub is_broken : Log D g → Bool
   is_broken log = log.is_broken
 
-  -- The log can be used, and the bytes of its disk have these batches.
-  pub record Reads (log : Log D g) (bodies : List (List ℕ)) : Type 0 where
+  -- The log can be used, and the bytes of its disk have these batches behind this front.
+  pub record Reads (front : List ℕ) (log : Log D g) (bodies : List (List ℕ)) : Type 0 where
     pub works : log.is_broken ≡ false
-    pub has : IsLog (g.state log.disk).contents bodies
-    pub end : log.end ≡ length (spelled bodies)
+    pub has : IsLog front (g.state log.disk).contents bodies
+    pub begins : log.begins ≡ length front
+    pub end : log.end ≡ length (spelled front bodies)
 
   -- It can be used, and has these batches, and they are durable.
-  pub record Has (log : Log D g) (bodies : List (List ℕ)) : Type 0 where
-    pub reads : Reads log bodies
+  pub record Has (front : List ℕ) (log : Log D g) (bodies : List (List ℕ)) : Type 0 where
+    pub reads : Reads front log bodies
     pub durable : g.state log.disk ≡ settled (g.state log.disk).contents
 
   -- It has some list of batches, perhaps the empty one.
-  abbrev pub HasSome : Log D g → Type 0
-  HasSome log = (bodies : List (List ℕ)) × Has log bodies
+  abbrev pub HasSome : (front : List ℕ) → Log D g → Type 0
+  HasSome front log = (bodies : List (List ℕ)) × Has front log bodies
 
   -- The bytes of its disk have some list of batches, perhaps the empty one.
-  abbrev pub ReadsSome : Log D g → Type 0
-  ReadsSome log = (bodies : List (List ℕ)) × Reads log bodies
+  abbrev pub ReadsSome : (front : List ℕ) → Log D g → Type 0
+  ReadsSome front log = (bodies : List (List ℕ)) × Reads front log bodies
 
-  -- It has no batches, its disk has the header and a closed gate, and no call failed since the disk was `before`.
-  abbrev pub IsEmptyOn : D → Log D g → Type 0
-  IsEmptyOn before log =
-      Has log [] × (g.state (disk_of log) ≡ settled (header ++ closed_gate ∷ [])) × (g.failures (disk_of log) ≡ g.failures before)
+  -- It has no batches, its disk has the front and a closed gate, and no call failed since the disk was `before`.
+  abbrev pub IsEmptyOn : (front : List ℕ) → D → Log D g → Type 0
+  IsEmptyOn front before log =
+      Has front log [] × (g.state (disk_of log) ≡ settled (front ++ closed_gate ∷ [])) × (g.failures (disk_of log) ≡ g.failures before)
 
   -- The log has one more batch, all of them durable,
   abbrev pub AddsBatch : {T E : Type 0} → (body : List ℕ) → (old new : Log D g) → Result T E → Type 0
-  AddsBatch body old new result = (bodies : List (List ℕ)) → Has old bodies → OnOk result (Has new (bodies ++ body ∷ []))
+  AddsBatch body old new result =
+      (front : List ℕ) (bodies : List (List ℕ)) → Has front old bodies → OnOk result (Has front new (bodies ++ body ∷ []))
 
   -- and each image has them.
   abbrev pub AddsDurably : {T E : Type 0} → (body : List ℕ) → (old new : Log D g) → Result T E → Type 0
   AddsDurably body old new result =
-      (bodies : List (List ℕ)) → Has old bodies → OnOk result (LeavesLog (bodies ++ body ∷ []) (g.state (disk_of new)))
+      (front : List ℕ) (bodies : List (List ℕ)) → Has front old bodies
+      → OnOk result (LeavesLog front (bodies ++ body ∷ []) (g.state (disk_of new)))
 
   -- A crash at any moment leaves the batches from before, with or without the new one.
   abbrev pub LeavesBeforeOrAfter : (body : List ℕ) → (old new : Log D g) → Type 0
   LeavesBeforeOrAfter body old new =
-      (bodies : List (List ℕ)) → Has old bodies → LeavesOnly g (disk_of old) (disk_of new) (IsBeforeOrAfter bodies body)
+      (front : List ℕ) (bodies : List (List ℕ)) → Has front old bodies
+      → LeavesOnly g (disk_of old) (disk_of new) (IsBeforeOrAfter front bodies body)
+
+  -- What a read of the log gives stays,
+  abbrev pub StaysRead : (old new : Log D g) → Type 0
+  StaysRead old new = (front : List ℕ) (bodies : List (List ℕ)) → Reads front old bodies → Reads front new bodies
+
+  -- and so does what is durable.
+  abbrev pub StaysAsItIs : (old new : Log D g) → Type 0
+  StaysAsItIs old new = (front : List ℕ) (bodies : List (List ℕ)) → Has front old bodies → Has front new bodies
+
+  -- Each image has the batches that are durable.
+  abbrev pub LeavesIts : Log D g → Type 0
+  LeavesIts log =
+      (front : List ℕ) (bodies : List (List ℕ)) → Has front log bodies → LeavesLog front bodies (g.state (disk_of log))
 
   -- the disk after a call that makes a log of it, or hands it back
   abbrev pub disk_after : Result (Log D g) (GateFault × D) → D
@@ -66,8 +83,8 @@ module _ {D : Type 0} {g : disk.Ghosts D} where
   failures_of_making (Err refused) n = after_fault refused.0 n
 
 -- If it was refused as damaged, the bytes are not a log's.
-abbrev pub IsNoLogIfDamaged : {D : Type 0} → List ℕ → (GateFault × D) → Type 0
-IsNoLogIfDamaged bytes refused = refused.0 ≡ Damaged → IsNoLog bytes
+abbrev pub IsNoLogIfDamaged : {D : Type 0} → (front bytes : List ℕ) → (GateFault × D) → Type 0
+IsNoLogIfDamaged front bytes refused = refused.0 ≡ Damaged → IsNoLog front bytes
 
 -- Either a device call failed, or there was no memory and the disk was not called.
 abbrev pub FailedOrUncalled : {D : Type 0} → D → (GateFault × D) → Type 0

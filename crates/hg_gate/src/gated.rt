@@ -306,7 +306,7 @@ fn read_head<D: Disk>(disk: &mut D, head: &mut [u8]) -> Result<u64, GateFault>
 }
 
 // The number that eight big-endian bytes spell.
-fn number_of(bytes: &[u8]) -> u64
+pub(crate) fn number_of(bytes: &[u8]) -> u64
     requires { length bytes.now ≡ 8 }
     ensures { to_be_bytes w64 result ≡ bytes.now }
 {

@@ -2,6 +2,7 @@
 //! gated file has one body, replaced as a whole.
 #![tactic(auto)]
 
+mod based;
 mod batch;
 mod fault;
 mod gated;
@@ -10,6 +11,7 @@ mod log;
 mod reader;
 mod scan;
 
+pub use based::{LogFile, MAX_BASE};
 pub use batch::{Batch, MAX_BODY_LEN};
 pub use fault::GateFault;
 pub use gated::{BodyTest, FRONT_LEN, Gated};

@@ -2,7 +2,7 @@
 ghost use Rattle.std.specs.Prelude.{◌≡◌, ◌⊎◌, ◌+◌, ◌≤◌, ◌^◌, ◌++◌, ◌∷◌, [], ℕ, List, length, vec_capacity, false, IsTrue, IfOk, IfErr, OnOk, OnErr, IsErrOf, Ok, Err};
 ghost use Rattle.hg_disk.specs.State.{IsDurable};
 ghost use Rattle.hg_disk.specs.Calls.{CallsAtMost};
-ghost use Rattle.hg_gate.specs.Batches.{OneCallABatch, closed_gate, sized};
+ghost use Rattle.hg_gate.specs.Batches.{OneCallABatch, closed_gate, header, sized};
 ghost use Rattle.hg_gate.specs.declared.log.TheConstants.{MAX_FRAME};
 ghost use Rattle.hg_gate.specs.Reading.{RefusesIfBroken, WasRead};
 ghost use Rattle.hg_gate.specs.Fault.{failures_after, IsBrokenOrDevice, IsDamagedOrDevice};
@@ -10,7 +10,7 @@ ghost use Rattle.hg_gate.specs.Fault.{failures_after, IsBrokenOrDevice, IsDamage
 use crate::batch::{Batch, MAX_BODY_LEN};
 use crate::fault::GateFault;
 use crate::reader::LogReader;
-use crate::scan::{find_end, go_on};
+use crate::scan::{HEADER, find_log, go_on};
 use hg_disk::{Disk, write_through};
 use std::alloc::{AllocError, Global};
 
@@ -26,13 +26,16 @@ const START: [u8; 9] = *b"HGJRNL1\n\x5A";
 // A length, the longest body, and a gate.
 const MAX_FRAME: usize = 4 + MAX_BODY_LEN + 1;
 
-/// Batches on a disk. A batch is durable once its `append` has answered `Ok`. The file is a header, the batches, a closed
+/// Batches on a disk. A batch is durable once its `append` has answered `Ok`. The file is a front, the batches, a closed
 /// gate, and then anything. Each batch is an open gate, the length of its body in four bytes (big-endian), and the body.
+/// The front is a header; or an open gate, another header, and a base in eight bytes (big-endian).
 pub struct Log<D: Disk> {
-    disk: D,
-    end: u64,
-    is_broken: bool,
-    buffer: Vec<u8>,
+    pub(crate) disk: D,
+    pub(crate) begins: u64,
+    pub(crate) end: u64,
+    pub(crate) is_broken: bool,
+    pub(crate) buffer: Vec<u8>,
+    ghost order: { begins ≤ end },
     ghost small: { end ≤ 2 ^ 62 },
     ghost room: { MAX_FRAME ≤ vec_capacity buffer },
 }
@@ -40,7 +43,7 @@ pub struct Log<D: Disk> {
 /// The memory of a log, taken before its disk is called.
 #[derive(Drop)]
 pub struct LogRoom {
-    buffer: Vec<u8>,
+    pub(crate) buffer: Vec<u8>,
     ghost room: { MAX_FRAME ≤ vec_capacity buffer },
 }
 
@@ -56,6 +59,7 @@ impl<D: Disk + Drop> Drop for Log<D> {
     fn drop(self) {
         let Log {
             disk,
+            begins: _,
             end: _,
             is_broken: _,
             buffer,
@@ -80,14 +84,14 @@ fn fill(buffer: &mut Vec<u8>, body: &[u8])
 
 impl<D: Disk> Log<D> {
     ghost use Rattle.hg_gate.specs.Batch.{body_of};
-    ghost use Rattle.hg_gate.specs.Log.{AddsBatch, AddsDurably, FailedOrUncalled, Has, HasSome, IsEmptyOn, IsNoLogIfDamaged, LeavesBeforeOrAfter, Reads, ReadsSome, disk_after, disk_of, failures_of_making, is_broken};
+    ghost use Rattle.hg_gate.specs.Log.{AddsBatch, AddsDurably, FailedOrUncalled, HasSome, IsEmptyOn, IsNoLogIfDamaged, LeavesBeforeOrAfter, ReadsSome, StaysAsItIs, StaysRead, disk_after, disk_of, failures_of_making, is_broken};
     ghost use Rattle.hg_gate.specs.Turning.{IsReadTo, Turns, TurnsUndamaged, rest_of};
 
-    /// Makes a log without batches on an empty disk. A refusal hands the disk back; after `OutOfMemory` the disk was not
-    /// called. It makes two device calls at most.
+    /// Makes a log without a base and without batches on an empty disk. A refusal hands the disk back; after `OutOfMemory`
+    /// the disk was not called. It makes two device calls at most.
     pub fn create(alloc: Global, disk: D) -> Result<Log<D>, (GateFault, D)>
         requires { length (D.state disk).contents ≡ 0 }
-        ensures empty { IfOk result (IsEmptyOn disk) }
+        ensures empty { IfOk result (IsEmptyOn header disk) }
         ensures calls { CallsAtMost ⟦<D as Disk>⟧ 2 disk (disk_after result) }
         ensures device { IfErr result (λ e. e.0 ≡ GateFault.DeviceFault → D.failures e.1 ≡ D.failures disk + 1) }
         ensures memory { IfErr result (FailedOrUncalled disk) }
@@ -98,11 +102,11 @@ impl<D: Disk> Log<D> {
         }
     }
 
-    /// Makes a log without batches on an empty disk, with memory taken before. `DeviceFault` hands the disk back. It makes
-    /// two device calls at most.
+    /// Makes a log without a base and without batches on an empty disk, with memory taken before. `DeviceFault` hands the
+    /// disk back. It makes two device calls at most.
     pub fn create_in(room: LogRoom, disk: D) -> Result<Log<D>, (GateFault, D)>
         requires { length (D.state disk).contents ≡ 0 }
-        ensures empty { IfOk result (IsEmptyOn disk) }
+        ensures empty { IfOk result (IsEmptyOn header disk) }
         ensures calls { CallsAtMost ⟦<D as Disk>⟧ 2 disk (disk_after result) }
         ensures device { IfErr result (λ e. (e.0 ≡ GateFault.DeviceFault) × (D.failures e.1 ≡ D.failures disk + 1)) }
     {
@@ -113,25 +117,26 @@ impl<D: Disk> Log<D> {
         }
         Ok(Log {
             disk,
-            end: 8,
+            begins: HEADER.len() as u64,
+            end: HEADER.len() as u64,
             is_broken: false,
             buffer,
         })
     }
 
-    /// The log that a disk holds, with the batches that its bytes have. A refusal hands the disk back: `Damaged` if the
-    /// bytes are not a log's, `DeviceFault` or `OutOfMemory`. It changes nothing, and reads the file by pieces of
-    /// `PIECE_LEN` bytes. If the disk was synced before, the batches are durable.
+    /// The log without a base that a disk holds, with the batches that its bytes have. A refusal hands the disk back:
+    /// `Damaged` if the bytes are not such a log's, `DeviceFault` or `OutOfMemory`. It changes nothing, and reads the file
+    /// by pieces of `PIECE_LEN` bytes. If the disk was synced before, the batches are durable.
     pub fn attach(alloc: Global, disk: D) -> Result<Log<D>, (GateFault, D)>
-        ensures reads { IsTrue D.is_honest → IfOk result ReadsSome }
-        ensures has { IsTrue D.is_honest → IsDurable (D.state disk) → IfOk result HasSome }
-        ensures damaged { IsTrue D.is_honest → IfErr result (IsNoLogIfDamaged (D.state disk).contents) }
+        ensures reads { IsTrue D.is_honest → IfOk result (ReadsSome header) }
+        ensures has { IsTrue D.is_honest → IsDurable (D.state disk) → IfOk result (HasSome header) }
+        ensures damaged { IsTrue D.is_honest → IfErr result (IsNoLogIfDamaged header (D.state disk).contents) }
         ensures works { IfOk result (λ log. is_broken log ≡ false) }
         ensures fault { IfErr result (λ e. IsDamagedOrDevice e.0 ⊎ (e.0 ≡ GateFault.OutOfMemory)) }
         // At most as many device calls as the disk has bytes. On an honest disk that holds a log: at most one per batch,
         // and two more.
         ensures disk { WasRead ⟦<D as Disk>⟧ (length (D.state disk).contents) disk (disk_after result) }
-        ensures one_a_batch { IsTrue D.is_honest → OneCallABatch ⟦<D as Disk>⟧ disk (disk_after result) }
+        ensures one_a_batch { IsTrue D.is_honest → OneCallABatch ⟦<D as Disk>⟧ header disk (disk_after result) }
 
         ensures device { D.failures (disk_after result) ≡ failures_of_making result (D.failures disk) }
     {
@@ -140,10 +145,11 @@ impl<D: Disk> Log<D> {
             Err(AllocError) => return Err((GateFault::OutOfMemory, disk)),
         };
         let mut disk = disk;
-        match find_end(&mut disk, alloc) {
-            Ok(end) => Ok(Log {
+        match find_log(&mut disk, alloc) {
+            Ok(len) => Ok(Log {
                 disk,
-                end,
+                begins: HEADER.len() as u64,
+                end: HEADER.len() as u64 + len,
                 is_broken: false,
                 buffer,
             }),
@@ -157,6 +163,7 @@ impl<D: Disk> Log<D> {
     {
         let Log {
             disk,
+            begins: _,
             end: _,
             is_broken: _,
             buffer: _,
@@ -228,8 +235,8 @@ impl<D: Disk> Log<D> {
 
         // The log stays as it is.
         ensures broken_or_not { is_broken self.new ≡ is_broken self.old }
-        ensures reads { (bodies : List (List ℕ)) → Reads self.old bodies → Reads self.new bodies }
-        ensures has { (bodies : List (List ℕ)) → Has self.old bodies → Has self.new bodies }
+        ensures reads { StaysRead self.old self.new }
+        ensures has { StaysAsItIs self.old self.new }
         ensures disk { WasRead ⟦<D as Disk>⟧ 1 (disk_of self.old) (disk_of self.new) }
         ensures device { D.failures (disk_of self.new) ≡ failures_after result (D.failures (disk_of self.old)) }
         ensures broken { RefusesIfBroken (is_broken self.old) GateFault.Broken self.old self.new result }
@@ -237,10 +244,11 @@ impl<D: Disk> Log<D> {
         if self.is_broken {
             return Err(GateFault::Broken);
         }
-        if reader.next > self.disk.len() {
+        let len = self.disk.len();
+        if len < self.begins || len - self.begins < reader.next {
             return Err(GateFault::Damaged);
         }
         let alloc = *self.buffer.allocator();
-        go_on(&mut self.disk, alloc, reader)
+        go_on(&mut self.disk, self.begins, alloc, reader)
     }
 }

@@ -4,13 +4,14 @@ ghost use Rattle.std.specs.Prelude.{◌≡◌, ◌+◌, ◌≤◌, ◌^◌, ℕ,
 ghost use Rattle.hg_gate.specs.Batches.{IsBodyLength};
 ghost use Rattle.hg_gate.specs.Scan.{IsOpen};
 
-use crate::scan::{HEAD_LEN, HEADER, parse_head};
+use crate::scan::{HEAD_LEN, parse_head};
 use std::alloc::Global;
 
 /// How many bytes of a log are read at once, if the file has so many left. Each batch fits.
 pub const PIECE_LEN: usize = 65_536;
 
 /// A place in a log: the bytes of the present batch that were not passed yet, and those that were read ahead behind it.
+/// The place of the next batch is counted from the first one on.
 #[derive(Drop)]
 pub struct LogReader {
     pub(crate) next: u64,
@@ -28,11 +29,11 @@ impl LogReader {
     pub(crate) fn new(alloc: Global) -> LogReader
         ensures first { (left : List (List ℕ)) → IsReadTo result [] left }
         ensures none { rest_of result ≡ [] }
-        ensures begins { result.next ≡ 8 }
+        ensures begins { result.next ≡ 0 }
         ensures unread { ahead_of result ≡ [] }
     {
         LogReader {
-            next: HEADER.len() as u64,
+            next: 0,
             piece: Vec::new(alloc),
             from: 0,
             to: 0,

@@ -1,11 +1,11 @@
 //! Where the batches of a log end.
-ghost use Rattle.std.specs.Prelude.{◌≡◌, ◌⊎◌, ◌+◌, ◌<◌, ◌≤◌, ◌↔◌, ◌^◌, ℕ, List, length, take, drop, false, IsTrue, IfOk, IfErr, OnOk, OnErr, Ok, IsErrOf};
+ghost use Rattle.std.specs.Prelude.{◌≡◌, ◌⊎◌, ◌+◌, ◌-◌, ◌<◌, ◌≤◌, ◌↔◌, ◌^◌, ◌++◌, ℕ, List, length, take, drop, false, IsTrue, IfOk, IfErr, OnOk, OnErr, Ok, IsErrOf};
 ghost use Rattle.hg_disk.specs.State.{Fills};
 ghost use Rattle.hg_disk.specs.Calls.{CallsAtMost};
-ghost use Rattle.hg_gate.specs.Batches.{IsBodyLength, IsNoLog, OneCallABatch};
+ghost use Rattle.hg_gate.specs.Batches.{EndsBehind, IsBodyLength, IsNoLog, OneCallABatch, header};
 ghost use Rattle.hg_gate.specs.Fault.{failures_after, IsDamagedOrDevice};
 ghost use Rattle.hg_gate.specs.Reading.{WasRead};
-ghost use Rattle.hg_gate.specs.Scan.{EndsAt, HasBodyLength, IsHead, IsNoTail, TellsNoTail, Walked, batch_len};
+ghost use Rattle.hg_gate.specs.Scan.{BeginsWith, EndsAt, HasBodyLength, IsHead, IsNoTail, OneCallABatchIn, TellsNoTail, batch_len};
 ghost use Rattle.hg_gate.specs.Turning.{GoesOn, TurnsIn, WalksOn};
 
 use crate::batch::MAX_BODY_LEN;
@@ -53,35 +53,51 @@ fn fits(len: u32, room: u64) -> bool
     1 <= len && len as usize <= MAX_BODY_LEN && 5 + (len as u64) < room
 }
 
-// The place of the first gate that is closed.
-pub(crate) fn find_end<D: Disk>(disk: &mut D, alloc: Global) -> Result<u64, GateFault>
-    ensures found { IsTrue D.is_honest → IfOk result (EndsAt (D.state disk.old).contents) }
-    ensures fits { IfOk result (λ at. at ≤ 2 ^ 62) }
-    ensures damaged { IsTrue D.is_honest → IsErrOf result GateFault.Damaged → IsNoLog (D.state disk.old).contents }
+// How many bytes of batches a log without a base has.
+pub(crate) fn find_log<D: Disk>(disk: &mut D, alloc: Global) -> Result<u64, GateFault>
+    ensures found { IsTrue D.is_honest → IfOk result (EndsBehind header (D.state disk.old).contents) }
+    ensures fits { IfOk result (λ len. 8 + len ≤ 2 ^ 62) }
+    ensures damaged { IsTrue D.is_honest → IsErrOf result GateFault.Damaged → IsNoLog header (D.state disk.old).contents }
     ensures fault { IfErr result (λ e. IsDamagedOrDevice e ⊎ (e ≡ GateFault.OutOfMemory)) }
     ensures device { D.failures disk.new ≡ failures_after result (D.failures disk.old) }
     ensures reads { WasRead ⟦<D as Disk>⟧ (length (D.state disk.old).contents) disk.old disk.new }
-    ensures one_a_batch { IsTrue D.is_honest → OneCallABatch ⟦<D as Disk>⟧ disk.old disk.new }
+    ensures one_a_batch { IsTrue D.is_honest → OneCallABatch ⟦<D as Disk>⟧ header disk.old disk.new }
 {
     read_header(disk)?;
+    find_end(disk, alloc, HEADER.len() as u64)
+}
+
+// How many bytes of batches stand from the place `begins` on: behind them stands the first gate that is closed.
+pub(crate) fn find_end<D: Disk>(disk: &mut D, alloc: Global, begins: u64) -> Result<u64, GateFault>
+    requires within { begins ≤ length (D.state disk.old).contents }
+    requires small { length (D.state disk.old).contents ≤ 2 ^ 62 }
+    ensures found { IsTrue D.is_honest → IfOk result (EndsAt (drop begins (D.state disk.old).contents)) }
+    ensures fits { IfOk result (λ len. begins + len ≤ 2 ^ 62) }
+    ensures damaged { TellsNoTail ⟦<D as Disk>⟧ begins 0 disk.old result }
+    ensures fault { IfErr result (λ e. IsDamagedOrDevice e ⊎ (e ≡ GateFault.OutOfMemory)) }
+    ensures device { D.failures disk.new ≡ failures_after result (D.failures disk.old) }
+    ensures reads { WasRead ⟦<D as Disk>⟧ (length (D.state disk.old).contents - begins + 1) disk.old disk.new }
+    ensures one_a_batch { IsTrue D.is_honest → OneCallABatchIn ⟦<D as Disk>⟧ begins disk.old disk.new }
+{
     let mut reader = LogReader::new(alloc);
-    while go_on(disk, alloc, &mut reader)? {}
+    while go_on(disk, begins, alloc, &mut reader)? {}
     Ok(reader.next)
 }
 
-// Makes the next batch the present one, if there is one. It calls the disk only where that batch was not read ahead
-// whole.
+// Makes the next batch the present one, if there is one. The batches begin at the place `begins`. It calls the disk only
+// where that batch was not read ahead whole.
 pub(crate) fn go_on<D: Disk>(
     disk: &mut D,
+    begins: u64,
     alloc: Global,
     reader: &mut LogReader,
 ) -> Result<bool, GateFault>
-    requires within { reader.old.next ≤ length (D.state disk.old).contents }
-    requires fits { reader.old.next ≤ 2 ^ 62 }
-    ensures next { IsTrue D.is_honest → TurnsIn (D.state disk.old).contents reader.old reader.new result }
-    ensures walks { WalksOn ⟦<D as Disk>⟧ disk.old reader.old reader.new result }
-    ensures within { GoesOn ⟦<D as Disk>⟧ disk.old reader.old reader.new result }
-    ensures whole { TellsNoTail ⟦<D as Disk>⟧ reader.old.next disk.old result }
+    requires within { begins + reader.old.next ≤ length (D.state disk.old).contents }
+    requires fits { begins + reader.old.next ≤ 2 ^ 62 }
+    ensures next { IsTrue D.is_honest → TurnsIn (drop begins (D.state disk.old).contents) reader.old reader.new result }
+    ensures walks { WalksOn ⟦<D as Disk>⟧ begins disk.old reader.old reader.new result }
+    ensures within { GoesOn ⟦<D as Disk>⟧ begins disk.old reader.old reader.new result }
+    ensures whole { TellsNoTail ⟦<D as Disk>⟧ begins reader.old.next disk.old result }
     ensures again { OnErr result (reader.new ≡ reader.old) }
     ensures stays { result ≡ Ok false → reader.new ≡ reader.old }
     ensures fault { IfErr result (λ e. IsDamagedOrDevice e ⊎ (e ≡ GateFault.OutOfMemory)) }
@@ -92,15 +108,15 @@ pub(crate) fn go_on<D: Disk>(
         reader.turn(body_len);
         return Ok(true);
     }
-    read_ahead(disk, alloc, reader)
+    read_ahead(disk, begins, alloc, reader)
 }
 
 // `Damaged` if the file does not begin with the header.
 fn read_header<D: Disk>(disk: &mut D) -> Result<(), GateFault>
-    ensures found { IsTrue D.is_honest → OnOk result (Walked (D.state disk.old).contents 8) }
+    ensures found { IsTrue D.is_honest → OnOk result (BeginsWith header (D.state disk.old).contents) }
     ensures within { OnOk result (8 ≤ length (D.state disk.old).contents) }
     ensures fits { OnOk result (length (D.state disk.old).contents ≤ 2 ^ 62) }
-    ensures damaged { IsTrue D.is_honest → IsErrOf result GateFault.Damaged → IsNoLog (D.state disk.old).contents }
+    ensures damaged { IsTrue D.is_honest → IsErrOf result GateFault.Damaged → IsNoLog header (D.state disk.old).contents }
     ensures fault { IfErr result IsDamagedOrDevice }
     ensures device { D.failures disk.new ≡ failures_after result (D.failures disk.old) }
     ensures reads { WasRead ⟦<D as Disk>⟧ 1 disk.old disk.new }
@@ -151,23 +167,24 @@ pub(crate) fn read_vec<D: Disk>(
 // Reads on from the place of the next batch, and makes that batch the present one, if there is one.
 fn read_ahead<D: Disk>(
     disk: &mut D,
+    begins: u64,
     alloc: Global,
     reader: &mut LogReader,
 ) -> Result<bool, GateFault>
-    requires within { reader.old.next ≤ length (D.state disk.old).contents }
-    ensures next { IsTrue D.is_honest → TurnsIn (D.state disk.old).contents reader.old reader.new result }
-    ensures walks { WalksOn ⟦<D as Disk>⟧ disk.old reader.old reader.new result }
-    ensures within { GoesOn ⟦<D as Disk>⟧ disk.old reader.old reader.new result }
-    ensures whole { TellsNoTail ⟦<D as Disk>⟧ reader.old.next disk.old result }
+    requires within { begins + reader.old.next ≤ length (D.state disk.old).contents }
+    ensures next { IsTrue D.is_honest → TurnsIn (drop begins (D.state disk.old).contents) reader.old reader.new result }
+    ensures walks { WalksOn ⟦<D as Disk>⟧ begins disk.old reader.old reader.new result }
+    ensures within { GoesOn ⟦<D as Disk>⟧ begins disk.old reader.old reader.new result }
+    ensures whole { TellsNoTail ⟦<D as Disk>⟧ begins reader.old.next disk.old result }
     ensures again { OnErr result (reader.new ≡ reader.old) }
     ensures stays { result ≡ Ok false → reader.new ≡ reader.old }
     ensures fault { IfErr result (λ e. IsDamagedOrDevice e ⊎ (e ≡ GateFault.OutOfMemory)) }
     ensures device { D.failures disk.new ≡ failures_after result (D.failures disk.old) }
     ensures reads { WasRead ⟦<D as Disk>⟧ 1 disk.old disk.new }
 {
-    let room = disk.len() - reader.next;
+    let room = disk.len() - begins - reader.next;
     let count = room.min(PIECE_LEN as u64) as usize;
-    let piece = read_vec(disk, alloc, reader.next, count)?;
+    let piece = read_vec(disk, alloc, begins + reader.next, count)?;
     let Some(len) = parse_head(&piece[..count.min(HEAD_LEN)], room)? else {
         return Ok(false);
     };

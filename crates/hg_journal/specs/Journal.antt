@@ -7,7 +7,7 @@ use Rattle.hg_model.specs.declared.verdict.Refusal.TheVariants.{Broken, Damaged,
 use Rattle.hg_records.specs.Records.{RecordFits, record_text}
 use Rattle.hg_disk.specs.Moments.{Leaves}
 use Rattle.hg_disk.specs.State.{DiskState}
-use Rattle.hg_gate.specs.Batches.{IsLog}
+use Rattle.hg_gate.specs.Batches.{IsLog, header}
 use Rattle.hg_gate.specs.declared.fault.GateFault.{GateFault}
 use Rattle.hg_gate.specs.declared.fault.GateFault.TheVariants as fault
 
@@ -18,7 +18,7 @@ batch_text events = flat_map record_text events
 -- The bytes are a log, each batch of which is the records of some events. These are the events of all batches in turn.
 pub record IsJournal (bytes : List ℕ) (events : List Named) : Type 0 where
   pub batches : List (List Named)
-  pub log : IsLog bytes (map batch_text batches)
+  pub log : IsLog header bytes (map batch_text batches)
   pub fits : AllByRecursion RecordFits events
   pub whole : events ≡ flat_map (λ batch. batch) batches
 

@@ -41,12 +41,12 @@ module _ {D : Type 0} {g : disk.Ghosts D} where
 
   -- The journal can be used, and these are its batches, durable. It is not known yet whether they are records.
   abbrev pub Opens : Journal D g → List (List ℕ) → Type 0
-  Opens j bodies = Has j.log bodies
+  Opens j bodies = Has header j.log bodies
 
   -- The journal can be used, and has these events, durable.
   pub record KeepsEvents (j : Journal D g) (events : List Named) : Type 0 where
     pub batches : List (List Named)
-    pub has : Has j.log (map batch_text batches)
+    pub has : Has header j.log (map batch_text batches)
     pub fits : AllByRecursion RecordFits events
     pub whole : events ≡ flat_map (λ batch. batch) batches
 
@@ -57,7 +57,7 @@ module _ {D : Type 0} {g : disk.Ghosts D} where
     pub present : List (List ℕ)
     pub later : List (List ℕ)
     pub read : List Named
-    pub has : Has j.log ((map batch_text past ++ present) ++ later)
+    pub has : Has header j.log ((map batch_text past ++ present) ++ later)
     pub place : IsReadTo r.batches (map batch_text past ++ present) later
     pub one : length present ≤ 1
     pub split : flat_map (λ body. body) present ≡ batch_text read ++ rest_of r

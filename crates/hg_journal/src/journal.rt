@@ -6,7 +6,7 @@ ghost use Rattle.hg_disk.specs.Calls.{CallsAtMost};
 ghost use Rattle.hg_gate.specs.Reading.{WasRead};
 ghost use Rattle.hg_gate.specs.declared.batch.TheConstants.{MAX_BODY_LEN};
 ghost use Rattle.hg_gate.specs.Batch.{vec_of};
-ghost use Rattle.hg_gate.specs.Batches.{IsBody, OneCallABatch};
+ghost use Rattle.hg_gate.specs.Batches.{IsBody, OneCallABatch, header};
 ghost use Rattle.hg_records.specs.Records.{RecordFits};
 ghost use Rattle.hg_journal.specs.Journal.{FailedOrUncalled, IsBrokenOrDevice, IsNoJournalIfDamaged, IsOfReading, batch_text, failed_after, of_gate};
 
@@ -141,7 +141,7 @@ impl<D: Disk> Journal<D> {
         // At most as many device calls as the disk has bytes. On an honest disk that holds a log: at most one per batch,
         // and two more.
         ensures disk { WasRead ⟦<D as Disk>⟧ (length (D.state disk).contents) disk (disk_after result) }
-        ensures one_a_batch { IsTrue D.is_honest → OneCallABatch ⟦<D as Disk>⟧ disk (disk_after result) }
+        ensures one_a_batch { IsTrue D.is_honest → OneCallABatch ⟦<D as Disk>⟧ header disk (disk_after result) }
 
         ensures device { D.failures (disk_after result) ≡ failures_of_making result (D.failures disk) }
     {

@@ -1,4 +1,4 @@
-use Rattle.std.proofs.Common.{◌≡◌, ◌+◌, ◌-◌, ◌≤◌, ◌^◌, length, IsTrue}
+use Rattle.std.proofs.Common.{◌≡◌, ◌-◌, length, drop, IsTrue}
 use Rattle.hg_disk.specs.Calls.{CallsAtMost}
 use Rattle.hg_disk.specs.State.{IsImage}
 use Rattle.hg_disk.specs.Moments.{LeavesOnly}
@@ -8,12 +8,10 @@ use Rattle.hg_gate.proofs.scan.find_end.Given as goal
 
 abbrev pub invariant-loop-reader : goal.invariant-loop-reader
 invariant-loop-reader g l = record {
-  within : EndsWithin (length (g.D.Disk.state l.fn.disk).contents) l.reader;
-  header : 8 ≤ l.reader.next;
-  small : length (g.D.Disk.state l.fn.disk).contents ≤ 2 ^ 62;
-  calls : CallsAtMost g.D.Disk (l.reader.next - 7) l.fn.disk l.disk;
-  counted : IsTrue g.D.Disk.is_honest → (w : Walked (g.D.Disk.state l.fn.disk).contents l.reader.next) × CallsAtMost g.D.Disk (length w.bodies + 1) l.fn.disk l.disk;
-  ahead : IsTrue g.D.Disk.is_honest → HasAhead (g.D.Disk.state l.fn.disk).contents l.reader;
+  within : EndsWithin (length (g.D.Disk.state l.fn.disk).contents - l.begins) l.reader;
+  calls : CallsAtMost g.D.Disk l.reader.next l.fn.disk l.disk;
+  counted : IsTrue g.D.Disk.is_honest → (w : Walked (drop l.begins (g.D.Disk.state l.fn.disk).contents) l.reader.next) × CallsAtMost g.D.Disk (length w.bodies) l.fn.disk l.disk;
+  ahead : IsTrue g.D.Disk.is_honest → HasAhead (drop l.begins (g.D.Disk.state l.fn.disk).contents) l.reader;
   state : g.D.Disk.state l.disk ≡ g.D.Disk.state l.fn.disk;
   failures : g.D.Disk.failures l.disk ≡ g.D.Disk.failures l.fn.disk;
   any_moment : LeavesOnly g.D.Disk l.fn.disk l.disk (IsImage (g.D.Disk.state l.fn.disk));

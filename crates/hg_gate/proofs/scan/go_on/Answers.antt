@@ -1,4 +1,4 @@
-use Rattle.std.proofs.Common.{arith, length, length-drop}
+use Rattle.std.proofs.Common.{◌-◌, arith, drop, length, length-drop}
 use Rattle.hg_gate.specs.Turning.{ahead_of}
 use Rattle.hg_gate.proofs.Turning.{open_len, passes, same_end}
 use Rattle.hg_gate.proofs.scan.go_on.Goals as goal
@@ -13,8 +13,8 @@ returns-in-Some-clause-next g c honest seen left has at = c.turn.ensures.turned 
 
 pub returns-in-Some-clause-walks : goal.returns-in-Some-clause-walks
 returns-in-Some-clause-walks g c honest at =
-    passes (g.D.Disk.state c.args.disk.now).contents c.args.reader.now c.turn.new.self c.in-Some.body_len at c.in-Some.ensures c.turn.ensures.over
+    passes (drop c.args.begins (g.D.Disk.state c.args.disk.now).contents) c.args.reader.now c.turn.new.self c.in-Some.body_len at c.in-Some.ensures c.turn.ensures.over
 
 pub returns-in-Some-clause-within : goal.returns-in-Some-clause-within
 returns-in-Some-clause-within g c within is =
-    same_end (length (g.D.Disk.state c.args.disk.now).contents) c.args.reader.now c.turn.new.self c.in-Some.body_len within c.in-Some.ensures c.turn.ensures.over
+    same_end (length (g.D.Disk.state c.args.disk.now).contents - c.args.begins) c.args.reader.now c.turn.new.self c.in-Some.body_len within c.in-Some.ensures c.turn.ensures.over

@@ -2,7 +2,7 @@ use Rattle.std.proofs.Common.{◌≡◌, ◌++◌, ◌∷◌, ◌∙◌, ℕ, Li
 use Rattle.std.specs.Global.{Vec}
 use Rattle.hg_disk.specs.Moments.{LeavesOnly}
 use Rattle.hg_gate.specs.Batch.{body_of}
-use Rattle.hg_gate.specs.Batches.{IsBeforeOrAfter, IsLog}
+use Rattle.hg_gate.specs.Batches.{IsBeforeOrAfter, IsLog, header}
 use Rattle.hg_gate.specs.Log.{Has}
 use Rattle.hg_journal.specs.Journal.{batch_text}
 use Rattle.hg_journal.proofs.Filling.{is_body}
@@ -20,7 +20,7 @@ returns-in-Ok-clause-added g c past k =
     let text : body_of c.batch_of-batch.result ≡ batch_text c.args.events.now =
     ap (λ (v : Vec ℕ). v.items) (c.batch_of-batch.ensures ∙ c.replace-body.ensures.value) ∙ c.put_records.ensures.items in
     keeps_pushed g.D.Disk past c.args.events.now k.batches k.whole k.fits c.put_records.ensures.fits _
-    (subst (λ (l : List ℕ). Has c.append-appended.new.self (bodies ++ l ∷ [])) text (c.in-Ok.ensures.added bodies k.has))
+    (subst (λ (l : List ℕ). Has header c.append-appended.new.self (bodies ++ l ∷ [])) text (c.in-Ok.ensures.added header bodies k.has))
 
 pub returns-in-Ok-clause-durable : goal.returns-in-Ok-clause-durable
 returns-in-Ok-clause-durable g c past k image is =
@@ -28,11 +28,11 @@ returns-in-Ok-clause-durable g c past k image is =
     let text : body_of c.batch_of-batch.result ≡ batch_text c.args.events.now =
     ap (λ (v : Vec ℕ). v.items) (c.batch_of-batch.ensures ∙ c.replace-body.ensures.value) ∙ c.put_records.ensures.items in
     pushed image past c.args.events.now k.batches k.whole k.fits c.put_records.ensures.fits
-    (subst (λ (l : List ℕ). IsLog image (bodies ++ l ∷ [])) text (c.in-Ok.ensures.durable bodies k.has image is))
+    (subst (λ (l : List ℕ). IsLog header image (bodies ++ l ∷ [])) text (c.in-Ok.ensures.durable header bodies k.has image is))
 
 pub returns-in-Ok-clause-readers : goal.returns-in-Ok-clause-readers
 returns-in-Ok-clause-readers g c reader seen h =
-    added g.D.Disk c.args.self.now reader seen h _ (body_of c.batch_of-batch.result ∷ []) (c.in-Ok.ensures.added ((map batch_text h.past ++ h.present) ++ h.later) h.has)
+    added g.D.Disk c.args.self.now reader seen h _ (body_of c.batch_of-batch.result ∷ []) (c.in-Ok.ensures.added header ((map batch_text h.past ++ h.present) ++ h.later) h.has)
 
 pub returns-in-Ok-clause-any_moment : goal.returns-in-Ok-clause-any_moment
 returns-in-Ok-clause-any_moment g c past k =
@@ -40,7 +40,7 @@ returns-in-Ok-clause-any_moment g c past k =
     let text : body_of c.batch_of-batch.result ≡ batch_text c.args.events.now =
     ap (λ (v : Vec ℕ). v.items) (c.batch_of-batch.ensures ∙ c.replace-body.ensures.value) ∙ c.put_records.ensures.items in
     moments g.D.Disk past c.args.events.now k.batches k.whole k.fits c.put_records.ensures.fits c.args.self.now.log.disk c.append-appended.new.self.disk
-    (subst (λ (l : List ℕ). LeavesOnly g.D.Disk c.args.self.now.log.disk c.append-appended.new.self.disk (IsBeforeOrAfter bodies l)) text (c.append-appended.ensures.any_moment bodies k.has))
+    (subst (λ (l : List ℕ). LeavesOnly g.D.Disk c.args.self.now.log.disk c.append-appended.new.self.disk (IsBeforeOrAfter header bodies l)) text (c.append-appended.ensures.any_moment header bodies k.has))
 
 pub returns-in-Err-clause-any_moment : goal.returns-in-Err-clause-any_moment
 returns-in-Err-clause-any_moment g c past k =
@@ -48,4 +48,4 @@ returns-in-Err-clause-any_moment g c past k =
     let text : body_of c.batch_of-batch.result ≡ batch_text c.args.events.now =
     ap (λ (v : Vec ℕ). v.items) (c.batch_of-batch.ensures ∙ c.replace-body.ensures.value) ∙ c.put_records.ensures.items in
     moments g.D.Disk past c.args.events.now k.batches k.whole k.fits c.put_records.ensures.fits c.args.self.now.log.disk c.append-appended.new.self.disk
-    (subst (λ (l : List ℕ). LeavesOnly g.D.Disk c.args.self.now.log.disk c.append-appended.new.self.disk (IsBeforeOrAfter bodies l)) text (c.append-appended.ensures.any_moment bodies k.has))
+    (subst (λ (l : List ℕ). LeavesOnly g.D.Disk c.args.self.now.log.disk c.append-appended.new.self.disk (IsBeforeOrAfter header bodies l)) text (c.append-appended.ensures.any_moment header bodies k.has))
