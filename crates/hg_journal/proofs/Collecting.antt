@@ -10,6 +10,7 @@ use Rattle.hg_journal.specs.declared.journal.Journal.{Journal}
 use Rattle.hg_journal.specs.declared.journal.JournalReader.{JournalReader}
 use Rattle.hg_journal.specs.Reading.{IsAt, KeepsEvents, disk_of}
 use Rattle.hg_journal.proofs.Journals.{one_reading}
+use Rattle.hg_gate.specs.Batches.{header}
 use Rattle.hg_journal.proofs.Journaling.{bytes_now, more}
 
 -- So many events were read, and those from number `from` on were found.
@@ -71,13 +72,13 @@ module _ {D : Type 0} (g : disk.Ghosts D) (j : Journal D g) (events : List Named
   -- at the journal's end
   pub at_last : (new : Journal D g) (seen found : List Named) → KeepsEvents new seen → KeepsEvents new events → found ≡ drop (from - 1) seen → length found ≤ max → found ≡ take max (drop (from - 1) events)
   at_last new seen found has same is few =
-      found_all events seen found from max (one_reading (g.state (disk_of new)).contents seen events (bytes_now g new seen has) (bytes_now g new events same)) is few
+      found_all events seen found from max (one_reading header (g.state (disk_of new)).contents seen events (bytes_now g header new seen has) (bytes_now g header new events same)) is few
 
   -- where the reading stopped before
   pub stopped : (r : JournalReader) (number : ℕ) (found : List Named) → Collected j r number from found → number ≤ count → length found ≤ max → (count ≤ number) ⊎ (max ≤ length found) → found ≡ take max (drop (from - 1) events)
   stopped r number found read within few why = by_cause why where
     left : (rest : List Named) × (events ≡ read.seen ++ rest)
-    left = more g j r read.seen read.at events (bytes_now g j events keeps)
+    left = more g header j r read.seen read.at events (bytes_now g header j events keeps)
 
     by_cause : (count ≤ number) ⊎ (max ≤ length found) → found ≡ take max (drop (from - 1) events)
     by_cause (inl all) =

@@ -10,7 +10,7 @@ use Rattle.hg_records.specs.Records.{BeginsWith, RecordFits, record_text}
 use Rattle.hg_disk.specs.declared.disk.Disk as disk
 use Rattle.hg_disk.specs.Moments.{Leaves, LeavesOnly}
 use Rattle.hg_disk.proofs.Moments.{weaker}
-use Rattle.hg_gate.specs.Batches.{IsBody, IsLog, IsBeforeOrAfter, header}
+use Rattle.hg_gate.specs.Batches.{IsBody, IsLog, IsBeforeOrAfter}
 use Rattle.hg_gate.specs.declared.fault.GateFault.{GateFault}
 use Rattle.hg_gate.specs.declared.fault.GateFault.TheVariants as fault
 use Rattle.hg_model.specs.declared.verdict.Refusal.{Refusal}
@@ -22,8 +22,8 @@ use Rattle.hg_gate.proofs.Appending.{each_image}
 use Rattle.hg_gate.proofs.Turning.{stays_on_append}
 use Rattle.hg_journal.specs.declared.journal.Journal.{Journal}
 use Rattle.hg_journal.specs.declared.journal.JournalReader.{JournalReader}
-use Rattle.hg_journal.specs.Journal.{IsJournal, batch_text, of_gate}
-use Rattle.hg_journal.specs.Reading.{IsAt, KeepsEvents, Passes, StaysBehind, disk_of, is_broken, rest_of}
+use Rattle.hg_journal.specs.Journal.{IsJournalBehind, batch_text, of_gate}
+use Rattle.hg_journal.specs.Reading.{IsAtBehind, KeepsBehind, Passes, StaysBehind, disk_of, is_broken, rest_of}
 use Rattle.hg_journal.proofs.Journals.{Turned, bytes_of, events_of, events_push, fits_back, fits_join, front_of, no_journal, pushed, text_push, turned}
 
 body_within : (bodies : List (List ℕ)) (body : List ℕ) (later : List (List ℕ)) → AllByRecursion IsBody (bodies ++ body ∷ later) → IsBody body
@@ -66,49 +66,49 @@ broken_on {V} {W} {T} {S} broken f r old new j k told h works = record {
   same = λ is. absurd (true≢false (sym is ∙ works));
 }
 
-module _ {D : Type 0} (g : disk.Ghosts D) where
+module _ {D : Type 0} (g : disk.Ghosts D) (lead : List ℕ) where
   -- ---- what a journal keeps
 
   -- its bytes now
-  pub bytes_now : (j : Journal D g) (events : List Named) → KeepsEvents j events → IsJournal (g.state (disk_of j)).contents events
+  pub bytes_now : (j : Journal D g) (events : List Named) → KeepsBehind lead j events → IsJournalBehind lead (g.state (disk_of j)).contents events
   bytes_now j events k = record { batches = k.batches; log = k.has.reads.has; fits = k.fits; whole = k.whole }
 
   -- and after a crash
-  pub each_image_has : (j : Journal D g) (events : List Named) → KeepsEvents j events → Leaves (λ (image : List ℕ). IsJournal image events) (g.state (disk_of j))
+  pub each_image_has : (j : Journal D g) (events : List Named) → KeepsBehind lead j events → Leaves (λ (image : List ℕ). IsJournalBehind lead image events) (g.state (disk_of j))
   each_image_has j events k image is = record {
     batches = k.batches;
-    log = each_image g header j.log (map batch_text k.batches) k.has [] image is;
+    log = each_image g lead j.log (map batch_text k.batches) k.has [] image is;
     fits = k.fits;
     whole = k.whole;
   }
 
-  pub works : (j : Journal D g) (events : List Named) → KeepsEvents j events → is_broken j ≡ false
+  pub works : (j : Journal D g) (events : List Named) → KeepsBehind lead j events → is_broken j ≡ false
   works j events k = k.has.reads.works
 
   -- ---- appending
 
   module _ (past new : List Named) (batches : List (List Named)) (whole : past ≡ events_of batches) (fits : AllByRecursion RecordFits past) (again : AllByRecursion RecordFits new) where
-    pub keeps_pushed : (j : Journal D g) → Has header j.log (map batch_text batches ++ batch_text new ∷ []) → KeepsEvents j (past ++ new)
+    pub keeps_pushed : (j : Journal D g) → Has lead j.log (map batch_text batches ++ batch_text new ∷ []) → KeepsBehind lead j (past ++ new)
     keeps_pushed j has = record {
       batches = batches ++ new ∷ [];
-      has = subst (λ (l : List (List ℕ)). Has header j.log l) (sym (text_push batches new)) has;
+      has = subst (λ (l : List (List ℕ)). Has lead j.log l) (sym (text_push batches new)) has;
       fits = fits_join past new fits again;
       whole = ap (λ (l : List Named). l ++ new) whole ∙ sym (events_push batches new);
     }
 
-    pub before_or_after : (image : List ℕ) → IsBeforeOrAfter header (map batch_text batches) (batch_text new) image → IsJournal image past ⊎ IsJournal image (past ++ new)
+    pub before_or_after : (image : List ℕ) → IsBeforeOrAfter lead (map batch_text batches) (batch_text new) image → IsJournalBehind lead image past ⊎ IsJournalBehind lead image (past ++ new)
     before_or_after image is = elim is [
       | inl before ↦ inl (record { batches = batches; log = before; fits = fits; whole = whole })
-      | inr after ↦ inr (pushed image past new batches whole fits again after)
+      | inr after ↦ inr (pushed lead image past new batches whole fits again after)
     ]
 
-    pub moments : (old now : D) → LeavesOnly g old now (IsBeforeOrAfter header (map batch_text batches) (batch_text new)) → LeavesOnly g old now (λ (image : List ℕ). IsJournal image past ⊎ IsJournal image (past ++ new))
-    moments old now has = weaker g old now (IsBeforeOrAfter header (map batch_text batches) (batch_text new)) (λ (image : List ℕ). IsJournal image past ⊎ IsJournal image (past ++ new)) has before_or_after
+    pub moments : (old now : D) → LeavesOnly g old now (IsBeforeOrAfter lead (map batch_text batches) (batch_text new)) → LeavesOnly g old now (λ (image : List ℕ). IsJournalBehind lead image past ⊎ IsJournalBehind lead image (past ++ new))
+    moments old now has = weaker g old now (IsBeforeOrAfter lead (map batch_text batches) (batch_text new)) (λ (image : List ℕ). IsJournalBehind lead image past ⊎ IsJournalBehind lead image (past ++ new)) has before_or_after
 
   -- ---- reading
 
   -- before the first event
-  pub at_first : (j : Journal D g) (r : JournalReader) (bodies : List (List ℕ)) → Has header j.log bodies → ((left : List (List ℕ)) → IsReadTo r.batches [] left) → rest_of r ≡ [] → IsAt j r []
+  pub at_first : (j : Journal D g) (r : JournalReader) (bodies : List (List ℕ)) → Has lead j.log bodies → ((left : List (List ℕ)) → IsReadTo r.batches [] left) → rest_of r ≡ [] → IsAtBehind lead j r []
   at_first j r bodies has place none = record {
     past = [];
     present = [];
@@ -122,9 +122,9 @@ module _ {D : Type 0} (g : disk.Ghosts D) where
     whole = refl;
   }
 
-  module _ (old : Journal D g) (r : JournalReader) (seen : List Named) (h : IsAt old r seen) where
+  module _ (old : Journal D g) (r : JournalReader) (seen : List Named) (h : IsAtBehind lead old r seen) where
     -- batches were added to the journal
-    pub added : (new : Journal D g) (more : List (List ℕ)) → Has header new.log (((map batch_text h.past ++ h.present) ++ h.later) ++ more) → IsAt new r seen
+    pub added : (new : Journal D g) (more : List (List ℕ)) → Has lead new.log (((map batch_text h.past ++ h.present) ++ h.later) ++ more) → IsAtBehind lead new r seen
     added new more has =
         let bodies = map batch_text h.past ++ h.present in
         record {
@@ -132,7 +132,7 @@ module _ {D : Type 0} (g : disk.Ghosts D) where
           present = h.present;
           later = h.later ++ more;
           read = h.read;
-          has = subst (λ (l : List (List ℕ)). Has header new.log l) (append_assoc bodies h.later more) has;
+          has = subst (λ (l : List (List ℕ)). Has lead new.log l) (append_assoc bodies h.later more) has;
           place = stays_on_append r.batches bodies h.later more h.place;
           one = h.one;
           split = h.split;
@@ -145,21 +145,21 @@ module _ {D : Type 0} (g : disk.Ghosts D) where
     behind none = turned h.past h.present h.read seen h.one (h.split ∙ ap (λ (l : List ℕ). batch_text h.read ++ l) none ∙ append-nil (batch_text h.read)) h.whole
 
     -- the next one is there
-    pub on : (new : Journal D g) (s : JournalReader) → rest_of r ≡ [] → Has header new.log ((map batch_text h.past ++ h.present) ++ h.later) → IsTurned s.batches (map batch_text h.past ++ h.present) h.later
-        → IsAt new s seen × (1 ≤ length (rest_of s))
+    pub on : (new : Journal D g) (s : JournalReader) → rest_of r ≡ [] → Has lead new.log ((map batch_text h.past ++ h.present) ++ h.later) → IsTurned s.batches (map batch_text h.past ++ h.present) h.later
+        → IsAtBehind lead new s seen × (1 ≤ length (rest_of s))
     on new s none has turned =
         let body = rest_of s in
         let later = turned.later in
         let t = behind none in
         let bodies = map batch_text h.past ++ h.present in
-        let moved : Has header new.log (bodies ++ body ∷ later) = subst (λ (l : List (List ℕ)). Has header new.log (bodies ++ l)) turned.first has in
+        let moved : Has lead new.log (bodies ++ body ∷ later) = subst (λ (l : List (List ℕ)). Has lead new.log (bodies ++ l)) turned.first has in
         let is_body : IsBody body = body_within bodies body later moved.reads.has.each in (
           record {
             past = t.batches;
             present = body ∷ [];
             later = later;
             read = [];
-            has = subst (λ (l : List (List ℕ)). Has header new.log l) (sym (append_assoc (map batch_text t.batches) (body ∷ []) later)) (subst (λ (l : List (List ℕ)). Has header new.log (l ++ body ∷ later)) (sym t.bodies) moved);
+            has = subst (λ (l : List (List ℕ)). Has lead new.log l) (sym (append_assoc (map batch_text t.batches) (body ∷ []) later)) (subst (λ (l : List (List ℕ)). Has lead new.log (l ++ body ∷ later)) (sym t.bodies) moved);
             place = subst (λ (l : List (List ℕ)). IsReadTo s.batches (l ++ body ∷ []) later) (sym t.bodies) turned.at;
             one = omega arith;
             split = append-nil body;
@@ -170,21 +170,21 @@ module _ {D : Type 0} (g : disk.Ghosts D) where
         )
 
     -- there is none
-    pub at_last : (new : Journal D g) → rest_of r ≡ [] → h.later ≡ [] → Has header new.log ((map batch_text h.past ++ h.present) ++ h.later) → KeepsEvents new seen
+    pub at_last : (new : Journal D g) → rest_of r ≡ [] → h.later ≡ [] → Has lead new.log ((map batch_text h.past ++ h.present) ++ h.later) → KeepsBehind lead new seen
     at_last new none last has =
         let t = behind none in
         let bodies = map batch_text h.past ++ h.present in
         let all : bodies ++ h.later ≡ map batch_text t.batches = ap (λ (l : List (List ℕ)). bodies ++ l) last ∙ append-nil bodies ∙ sym t.bodies in
-        record { batches = t.batches; has = subst (λ (l : List (List ℕ)). Has header new.log l) all has; fits = h.fits; whole = t.whole }
+        record { batches = t.batches; has = subst (λ (l : List (List ℕ)). Has lead new.log l) all has; fits = h.fits; whole = t.whole }
 
     -- one of the two, as the log answered
-    pub found_next : (new : Journal D g) (s : JournalReader) (found : Bool) → rest_of r ≡ [] → Has header new.log ((map batch_text h.past ++ h.present) ++ h.later)
-        → MatchBool found (IsTurned s.batches (map batch_text h.past ++ h.present) h.later) (h.later ≡ []) → MatchBool found (IsAt new s seen × (1 ≤ length (rest_of s))) (KeepsEvents new seen)
+    pub found_next : (new : Journal D g) (s : JournalReader) (found : Bool) → rest_of r ≡ [] → Has lead new.log ((map batch_text h.past ++ h.present) ++ h.later)
+        → MatchBool found (IsTurned s.batches (map batch_text h.past ++ h.present) h.later) (h.later ≡ []) → MatchBool found (IsAtBehind lead new s seen × (1 ≤ length (rest_of s))) (KeepsBehind lead new seen)
     found_next new s true none has turned = on new s none has turned
     found_next new s false none has last = at_last new none last has
 
     -- one event more
-    pub step : (s : JournalReader) (named : Named) → BeginsWith (rest_of r) named (rest_of s) → StaysBehind r s → IsAt old s (seen ++ named ∷ [])
+    pub step : (s : JournalReader) (named : Named) → BeginsWith (rest_of r) named (rest_of s) → StaysBehind r s → IsAtBehind lead old s (seen ++ named ∷ [])
     step s named begins stays = record {
       past = h.past;
       present = h.present;
@@ -200,7 +200,7 @@ module _ {D : Type 0} (g : disk.Ghosts D) where
     }
 
     -- some events more
-    pub steps : (s : JournalReader) (count : ℕ) → Passes count (rest_of r) (rest_of s) → StaysBehind r s → (more : List Named) × (length more ≡ count) × IsAt old s (seen ++ more)
+    pub steps : (s : JournalReader) (count : ℕ) → Passes count (rest_of r) (rest_of s) → StaysBehind r s → (more : List Named) × (length more ≡ count) × IsAtBehind lead old s (seen ++ more)
     steps s count passes stays =
         let p = passed_text count (rest_of r) (rest_of s) passes in (
           p.0,
@@ -221,22 +221,22 @@ module _ {D : Type 0} (g : disk.Ghosts D) where
         )
 
     -- no record where bytes are left: the bytes are none of a journal
-    pub none_of : 1 ≤ length (rest_of r) → ((named : Named) (tail : List ℕ) → BeginsWith (rest_of r) named tail → ⊥) → (events : List Named) → IsJournal (g.state (disk_of old)).contents events → ⊥
+    pub none_of : 1 ≤ length (rest_of r) → ((named : Named) (tail : List ℕ) → BeginsWith (rest_of r) named tail → ⊥) → (events : List Named) → IsJournalBehind lead (g.state (disk_of old)).contents events → ⊥
     none_of some none = by_present h.present h.one h.split h.has.reads.has
       where
-        by_present : (present : List (List ℕ)) → length present ≤ 1 → bytes_of present ≡ batch_text h.read ++ rest_of r → IsLog header (g.state (disk_of old)).contents ((map batch_text h.past ++ present) ++ h.later)
-            → (events : List Named) → IsJournal (g.state (disk_of old)).contents events → ⊥
+        by_present : (present : List (List ℕ)) → length present ≤ 1 → bytes_of present ≡ batch_text h.read ++ rest_of r → IsLog lead (g.state (disk_of old)).contents ((map batch_text h.past ++ present) ++ h.later)
+            → (events : List Named) → IsJournalBehind lead (g.state (disk_of old)).contents events → ⊥
         by_present [] one split has events is = absurd (omega (arith, some, ap length split, length-append (batch_text h.read) (rest_of r)))
         by_present (b ∷ []) one split has events is =
             let body : b ≡ batch_text h.read ++ rest_of r = sym (append-nil b) ∙ split in
-            no_journal (g.state (disk_of old)).contents (map batch_text h.past) h.read (rest_of r) h.later
-            (subst (λ (l : List ℕ). IsLog header (g.state (disk_of old)).contents ((map batch_text h.past ++ l ∷ []) ++ h.later)) body has)
+            no_journal lead (g.state (disk_of old)).contents (map batch_text h.past) h.read (rest_of r) h.later
+            (subst (λ (l : List ℕ). IsLog lead (g.state (disk_of old)).contents ((map batch_text h.past ++ l ∷ []) ++ h.later)) body has)
             (fits_back (events_of h.past) h.read (subst (AllByRecursion RecordFits) h.whole h.fits)) some none events is
         by_present (b ∷ c ∷ present) one split has events is = absurd (omega (arith, one))
 
     -- what was read is the front of what is there
-    pub more : (events : List Named) → IsJournal (g.state (disk_of old)).contents events → (left : List Named) × (events ≡ seen ++ left)
-    more events is = front_of (g.state (disk_of old)).contents h.past h.present h.later h.read seen events (rest_of r) h.has.reads.has h.split h.fits h.whole is
+    pub more : (events : List Named) → IsJournalBehind lead (g.state (disk_of old)).contents events → (left : List Named) × (events ≡ seen ++ left)
+    more events is = front_of lead (g.state (disk_of old)).contents h.past h.present h.later h.read seen events (rest_of r) h.has.reads.has h.split h.fits h.whole is
 
 -- a fault that is told as damage is damage
 pub told_damaged : (f : GateFault) → of_gate f ≡ refusal.Damaged → f ≡ fault.Damaged
@@ -246,6 +246,6 @@ told_damaged fault.DeviceFault same = absurd cc
 told_damaged fault.OutOfMemory same = absurd cc
 
 -- none more
-pub no_more : {D : Type 0} {g : disk.Ghosts D} (j : Journal D g) (r : JournalReader) (seen more : List Named) → length more ≡ 0 → IsAt j r (seen ++ more) → IsAt j r seen
-no_more j r seen [] none at = subst (λ (events : List Named). IsAt j r events) (append-nil seen) at
-no_more j r seen (n ∷ more) none at = absurd (omega (arith, none))
+pub no_more : {D : Type 0} {g : disk.Ghosts D} (lead : List ℕ) (j : Journal D g) (r : JournalReader) (seen more : List Named) → length more ≡ 0 → IsAtBehind lead j r (seen ++ more) → IsAtBehind lead j r seen
+no_more lead j r seen [] none at = subst (λ (events : List Named). IsAtBehind lead j r events) (append-nil seen) at
+no_more lead j r seen (n ∷ more) none at = absurd (omega (arith, none))

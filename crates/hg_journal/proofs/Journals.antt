@@ -6,9 +6,9 @@ use Rattle.std.specs.List.{flat_map, AllByRecursion}
 use Rattle.hg_model.specs.declared.event.Named.{Named}
 use Rattle.hg_records.specs.Records.{BeginsWith, RecordFits, record_text}
 use Rattle.hg_records.proofs.RecordLemmas.{one_list, parted}
-use Rattle.hg_gate.specs.Batches.{IsLog, header}
+use Rattle.hg_gate.specs.Batches.{IsLog}
 use Rattle.hg_gate.proofs.Grammar as grammar
-use Rattle.hg_journal.specs.Journal.{IsJournal, batch_text}
+use Rattle.hg_journal.specs.Journal.{IsJournalBehind, batch_text}
 
 -- ---- the events of batches
 
@@ -46,18 +46,18 @@ events_push batches batch = flat_map-append (λ (b : List Named). b) batches (ba
 -- ---- journals
 
 -- The bytes of a journal have one list of events.
-pub one_reading : (bytes : List ℕ) (first second : List Named) → IsJournal bytes first → IsJournal bytes second → first ≡ second
-one_reading bytes first second a b =
-    let bodies : map batch_text a.batches ≡ map batch_text b.batches = grammar.one_reading header bytes (map batch_text a.batches) (map batch_text b.batches) a.log b.log in
+pub one_reading : (lead bytes : List ℕ) (first second : List Named) → IsJournalBehind lead bytes first → IsJournalBehind lead bytes second → first ≡ second
+one_reading lead bytes first second a b =
+    let bodies : map batch_text a.batches ≡ map batch_text b.batches = grammar.one_reading lead bytes (map batch_text a.batches) (map batch_text b.batches) a.log b.log in
     one_list first second a.fits b.fits
     (ap batch_text a.whole ∙ all_text a.batches ∙ ap bytes_of bodies ∙ sym (all_text b.batches) ∙ sym (ap batch_text b.whole))
 
 -- A journal with one batch more.
-pub pushed : (bytes : List ℕ) (past new : List Named) (batches : List (List Named)) → past ≡ events_of batches → AllByRecursion RecordFits past → AllByRecursion RecordFits new
-    → IsLog header bytes (map batch_text batches ++ batch_text new ∷ []) → IsJournal bytes (past ++ new)
-pushed bytes past new batches whole fits again has = record {
+pub pushed : (lead bytes : List ℕ) (past new : List Named) (batches : List (List Named)) → past ≡ events_of batches → AllByRecursion RecordFits past → AllByRecursion RecordFits new
+    → IsLog lead bytes (map batch_text batches ++ batch_text new ∷ []) → IsJournalBehind lead bytes (past ++ new)
+pushed lead bytes past new batches whole fits again has = record {
   batches = batches ++ new ∷ [];
-  log = subst (IsLog header bytes) (sym (text_push batches new)) has;
+  log = subst (IsLog lead bytes) (sym (text_push batches new)) has;
   fits = fits_join past new fits again;
   whole = ap (λ (l : List Named). l ++ new) whole ∙ sym (events_push batches new);
 }
@@ -78,12 +78,12 @@ there (b ∷ batches) [] body later fits same = record { events = b; fits = fits
 there (b ∷ batches) (f ∷ front) body later fits same = there batches front body later (fits_back b (events_of batches) fits) (ap (λ (l : List (List ℕ)). drop 1 l) same)
 
 -- Where a batch has bytes left behind some records, and no record begins there, the bytes are none of a journal.
-pub no_journal : (bytes : List ℕ) (front : List (List ℕ)) (read : List Named) (rest : List ℕ) (later : List (List ℕ)) → IsLog header bytes ((front ++ (batch_text read ++ rest) ∷ []) ++ later)
-    → AllByRecursion RecordFits read → 1 ≤ length rest → ((named : Named) (tail : List ℕ) → BeginsWith rest named tail → ⊥) → (events : List Named) → IsJournal bytes events → ⊥
-no_journal bytes front read rest later has fits some none events is =
+pub no_journal : (lead bytes : List ℕ) (front : List (List ℕ)) (read : List Named) (rest : List ℕ) (later : List (List ℕ)) → IsLog lead bytes ((front ++ (batch_text read ++ rest) ∷ []) ++ later)
+    → AllByRecursion RecordFits read → 1 ≤ length rest → ((named : Named) (tail : List ℕ) → BeginsWith rest named tail → ⊥) → (events : List Named) → IsJournalBehind lead bytes events → ⊥
+no_journal lead bytes front read rest later has fits some none events is =
     let body = batch_text read ++ rest in
     let same : map batch_text is.batches ≡ front ++ body ∷ later =
-    grammar.one_reading header bytes (map batch_text is.batches) ((front ++ body ∷ []) ++ later) is.log has ∙ append_assoc front (body ∷ []) later in
+    grammar.one_reading lead bytes (map batch_text is.batches) ((front ++ body ∷ []) ++ later) is.log has ∙ append_assoc front (body ∷ []) later in
     let batch = there is.batches front body later (subst (AllByRecursion RecordFits) is.whole is.fits) same in
     let left = parted read batch.events rest fits batch.fits batch.text in
     none_of left.more left.text left.fits
@@ -116,10 +116,10 @@ turned past (b ∷ []) read seen one split whole = record {
 turned past (b ∷ c ∷ present) read seen one split whole = absurd (omega (arith, one))
 
 -- What was read is the front of what is there.
-pub front_of : (bytes : List ℕ) (past : List (List Named)) (present later : List (List ℕ)) (read seen events : List Named) (rest : List ℕ) → IsLog header bytes ((map batch_text past ++ present) ++ later)
-    → bytes_of present ≡ batch_text read ++ rest → AllByRecursion RecordFits seen → seen ≡ events_of past ++ read → IsJournal bytes events → (left : List Named) × (events ≡ seen ++ left)
-front_of bytes past present later read seen events rest has split fits whole is =
-    let bodies : map batch_text is.batches ≡ (map batch_text past ++ present) ++ later = grammar.one_reading header bytes (map batch_text is.batches) ((map batch_text past ++ present) ++ later) is.log has in
+pub front_of : (lead bytes : List ℕ) (past : List (List Named)) (present later : List (List ℕ)) (read seen events : List Named) (rest : List ℕ) → IsLog lead bytes ((map batch_text past ++ present) ++ later)
+    → bytes_of present ≡ batch_text read ++ rest → AllByRecursion RecordFits seen → seen ≡ events_of past ++ read → IsJournalBehind lead bytes events → (left : List Named) × (events ≡ seen ++ left)
+front_of lead bytes past present later read seen events rest has split fits whole is =
+    let bodies : map batch_text is.batches ≡ (map batch_text past ++ present) ++ later = grammar.one_reading lead bytes (map batch_text is.batches) ((map batch_text past ++ present) ++ later) is.log has in
     let front : bytes_of (map batch_text past ++ present) ≡ batch_text seen ++ rest =
     flat_map-append (λ (b : List ℕ). b) (map batch_text past) present
     ∙ ap (λ (l : List ℕ). bytes_of (map batch_text past) ++ l) split

@@ -15,22 +15,36 @@ use Rattle.hg_gate.specs.declared.fault.GateFault.TheVariants as fault
 abbrev pub batch_text : List Named → List ℕ
 batch_text events = flat_map record_text events
 
--- The bytes are a log, each batch of which is the records of some events. These are the events of all batches in turn.
-pub record IsJournal (bytes : List ℕ) (events : List Named) : Type 0 where
+-- The bytes are a log behind this front, each batch of which is the records of some events. These are the events of all
+-- batches in turn.
+pub record IsJournalBehind (front bytes : List ℕ) (events : List Named) : Type 0 where
   pub batches : List (List Named)
-  pub log : IsLog header bytes (map batch_text batches)
+  pub log : IsLog front bytes (map batch_text batches)
   pub fits : AllByRecursion RecordFits events
   pub whole : events ≡ flat_map (λ batch. batch) batches
 
+-- The bytes are a journal without a base.
+abbrev pub IsJournal : List ℕ → List Named → Type 0
+IsJournal bytes events = IsJournalBehind header bytes events
+
 -- The bytes are not a journal's.
+abbrev pub IsNoJournalBehind : (front bytes : List ℕ) → Type 0
+IsNoJournalBehind front bytes = (events : List Named) → ¬ IsJournalBehind front bytes events
+
 abbrev pub IsNoJournal : List ℕ → Type 0
 IsNoJournal bytes = (events : List Named) → ¬ IsJournal bytes events
 
 -- The bytes are a journal of the events from before, with all the new ones or none.
+abbrev pub IsAllOrNoneBehind : (front : List ℕ) → (past events : List Named) → List ℕ → Type 0
+IsAllOrNoneBehind front past events bytes = IsJournalBehind front bytes past ⊎ IsJournalBehind front bytes (past ++ events)
+
 abbrev pub IsAllOrNone : (past events : List Named) → List ℕ → Type 0
 IsAllOrNone past events bytes = IsJournal bytes past ⊎ IsJournal bytes (past ++ events)
 
 -- Each image is a journal of these events.
+abbrev pub LeavesJournalBehind : (front : List ℕ) → List Named → DiskState → Type 0
+LeavesJournalBehind front events s = Leaves (λ image. IsJournalBehind front image events) s
+
 abbrev pub LeavesJournal : List Named → DiskState → Type 0
 LeavesJournal events s = Leaves (λ image. IsJournal image events) s
 

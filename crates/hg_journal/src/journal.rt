@@ -1,5 +1,5 @@
 //! A journal: events on a disk, in batches. A batch is durable once it was appended.
-ghost use Rattle.std.specs.Prelude.{◌≡◌, ◌+◌, ◌≤◌, length, vec_capacity, IsTrue, IfOk, IfErr, OnOk, OnErr, IsErrOf, Err, false};
+ghost use Rattle.std.specs.Prelude.{◌≡◌, ◌+◌, ◌≤◌, ℕ, List, length, vec_capacity, IsTrue, IfOk, IfErr, OnOk, OnErr, IsErrOf, Err, false};
 ghost use Rattle.std.specs.List.{AllByRecursion};
 ghost use Rattle.hg_disk.specs.State.{IsDurable};
 ghost use Rattle.hg_disk.specs.Calls.{CallsAtMost};
@@ -41,8 +41,8 @@ impl<D: Disk + Drop> Drop for Journal<D> {
 /// The memory of a journal, taken before its disk is called.
 #[derive(Drop)]
 pub struct JournalRoom {
-    log: LogRoom,
-    body: Vec<u8>,
+    pub(crate) log: LogRoom,
+    pub(crate) body: Vec<u8>,
     ghost room: { MAX_BODY_LEN ≤ vec_capacity body },
 }
 
@@ -99,7 +99,7 @@ fn batch_of(body: Vec<u8>) -> Batch
 }
 
 impl<D: Disk> Journal<D> {
-    ghost use Rattle.hg_journal.specs.Reading.{AddsDurably, AddsEvents, IsEmptyOn, KeepsReaders, LeavesAllOrNone, OpensSome, StaysBroken, disk_after, disk_of, failures_of_making, is_broken};
+    ghost use Rattle.hg_journal.specs.Reading.{AddsDurably, AddsDurablyBehind, AddsEvents, AddsEventsBehind, IsEmptyOn, KeepsReaders, KeepsReadersBehind, LeavesAllOrNone, LeavesAllOrNoneBehind, OpensSome, StaysBroken, disk_after, disk_of, failures_of_making, is_broken};
 
     /// Makes a journal without events on an empty disk. A refusal hands the disk back; after `OutOfMemory` the disk was not
     /// called. It makes two device calls at most.
@@ -170,13 +170,17 @@ impl<D: Disk> Journal<D> {
         requires some { 1 ≤ length events.now }
         requires few { length events.now ≤ MAX_BATCH_EVENTS }
         ensures added { AddsEvents events.now self.old self.new result }
+        ensures added_behind { (front : List ℕ) → AddsEventsBehind front events.now self.old self.new result }
         ensures durable { AddsDurably events.now self.old self.new result }
+        ensures durable_behind { (front : List ℕ) → AddsDurablyBehind front events.now self.old self.new result }
 
         // A crash at any moment of the call leaves the events from before it, with all the new ones or none.
         ensures any_moment { LeavesAllOrNone events.now self.old self.new }
+        ensures any_moment_behind { (front : List ℕ) → LeavesAllOrNoneBehind front events.now self.old self.new }
 
         // A reader that was begun before reads on, to the new events too.
         ensures readers { KeepsReaders self.old self.new result }
+        ensures readers_behind { (front : List ℕ) → KeepsReadersBehind front self.old self.new result }
 
         ensures fault { IfErr result IsBrokenOrDevice }
         ensures calls { CallsAtMost ⟦<D as Disk>⟧ 4 (disk_of self.old) (disk_of self.new) }

@@ -2,6 +2,7 @@
 #![tactic(auto)]
 
 pub mod collect;
+pub mod file;
 pub mod journal;
 pub mod laws;
 mod reader;

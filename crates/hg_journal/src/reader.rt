@@ -5,7 +5,7 @@ ghost use Rattle.hg_gate.specs.Reading.{RefusesIfBroken, WasRead};
 ghost use Rattle.hg_records.specs.Records.{BeginsWith};
 ghost use Rattle.hg_records.specs.Lengths.{HasNoRecord};
 ghost use Rattle.hg_journal.specs.Journal.{IsOfReading, failed_after};
-ghost use Rattle.hg_journal.specs.Reading.{BeginsAtFirst, CanBeTriedAgain, FindsMore, FindsUndamaged, HasReadAll, KeepsEvents, Opens, Passes, ReadsMore, ReadsNext, StaysBehind, StaysOnErr, TellsTrueDamage, disk_of, is_broken, rest_of};
+ghost use Rattle.hg_journal.specs.Reading.{BeginsAtFirst, BeginsAtFirstBehind, CanBeTriedAgain, CanBeTriedAgainBehind, FindsMoreBehind, FindsUndamagedBehind, HasReadAll, HasReadAllBehind, KeepsEvents, Opens, Passes, ReadsMore, ReadsMoreBehind, ReadsNext, ReadsNextBehind, StaysBehind, StaysKept, StaysOnErrBehind, StaysOpened, TellsTrueDamage, TellsTrueDamageBehind, disk_of, is_broken, rest_of};
 
 use crate::journal::{Journal, JournalReader, refusal_of};
 use hg_disk::Disk;
@@ -50,6 +50,7 @@ impl<D: Disk> Journal<D> {
     /// The events, from the first on, for `next`. It takes no memory.
     pub fn events(&self) -> Result<JournalReader, Refusal>
         ensures first { BeginsAtFirst self.now result }
+        ensures first_behind { (front : List ℕ) → BeginsAtFirstBehind front self.now result }
         ensures fault { IfErr result (λ e. (e ≡ Refusal.Broken) × IsTrue (is_broken self.now)) }
         ensures refuses { IsTrue (is_broken self.now) → result ≡ Err Refusal.Broken }
     {
@@ -62,11 +63,13 @@ impl<D: Disk> Journal<D> {
     // Goes on to a batch with unread bytes, and answers whether there is one.
     #[inline(always)]
     fn find(&mut self, reader: &mut JournalReader) -> Result<bool, Refusal>
-        ensures found { FindsMore self.old reader.old self.new reader.new result }
-        ensures whole { FindsUndamaged self.old reader.old result }
-        ensures again { StaysOnErr self.old reader.old self.new reader.new result }
+        ensures found { (front : List ℕ) → FindsMoreBehind front self.old reader.old self.new reader.new result }
+        ensures whole { (front : List ℕ) → FindsUndamagedBehind front self.old reader.old result }
+        ensures again { (front : List ℕ) → StaysOnErrBehind front self.old reader.old self.new reader.new result }
         ensures keeps { (events : List NamedOf) → KeepsEvents self.old events → KeepsEvents self.new events }
         ensures opens { (bodies : List (List ℕ)) → Opens self.old bodies → Opens self.new bodies }
+        ensures keeps_behind { StaysKept self.old self.new }
+        ensures opens_behind { StaysOpened self.old self.new }
         ensures disk { WasRead ⟦<D as Disk>⟧ 1 (disk_of self.old) (disk_of self.new) }
         ensures fault { IfErr result (λ e. IsOfReading e ⊎ (e ≡ Refusal.Broken)) }
         ensures device { D.failures (disk_of self.new) ≡ failed_after result (D.failures (disk_of self.old)) }
@@ -88,11 +91,13 @@ impl<D: Disk> Journal<D> {
     fn turn(&mut self, reader: &mut JournalReader) -> Result<bool, Refusal>
         requires works { is_broken self.old ≡ false }
         requires read { rest_of reader.old ≡ [] }
-        ensures found { FindsMore self.old reader.old self.new reader.new result }
-        ensures whole { FindsUndamaged self.old reader.old result }
-        ensures again { StaysOnErr self.old reader.old self.new reader.new result }
+        ensures found { (front : List ℕ) → FindsMoreBehind front self.old reader.old self.new reader.new result }
+        ensures whole { (front : List ℕ) → FindsUndamagedBehind front self.old reader.old result }
+        ensures again { (front : List ℕ) → StaysOnErrBehind front self.old reader.old self.new reader.new result }
         ensures keeps { (events : List NamedOf) → KeepsEvents self.old events → KeepsEvents self.new events }
         ensures opens { (bodies : List (List ℕ)) → Opens self.old bodies → Opens self.new bodies }
+        ensures keeps_behind { StaysKept self.old self.new }
+        ensures opens_behind { StaysOpened self.old self.new }
         ensures disk { WasRead ⟦<D as Disk>⟧ 1 (disk_of self.old) (disk_of self.new) }
         ensures fault { IfErr result (λ e. IsOfReading e ⊎ (e ≡ Refusal.Broken)) }
         ensures device { D.failures (disk_of self.new) ≡ failed_after result (D.failures (disk_of self.old)) }
@@ -111,13 +116,19 @@ impl<D: Disk> Journal<D> {
     #[inline(always)]
     pub fn next(&mut self, reader: &mut JournalReader) -> Result<Option<Named>, Refusal>
         ensures next { ReadsNext self.old reader.old self.new reader.new result }
+        ensures next_behind { (front : List ℕ) → ReadsNextBehind front self.old reader.old self.new reader.new result }
         ensures damaged { TellsTrueDamage self.old reader.old result }
+        ensures damaged_behind { (front : List ℕ) → TellsTrueDamageBehind front self.old reader.old result }
         ensures again { CanBeTriedAgain self.old reader.old self.new reader.new result }
+        ensures again_behind { (front : List ℕ) →
+            CanBeTriedAgainBehind front self.old reader.old self.new reader.new result }
 
         // The journal stays as it is.
         ensures broken_or_not { is_broken self.new ≡ is_broken self.old }
         ensures keeps { (events : List NamedOf) → KeepsEvents self.old events → KeepsEvents self.new events }
         ensures opens { (bodies : List (List ℕ)) → Opens self.old bodies → Opens self.new bodies }
+        ensures keeps_behind { StaysKept self.old self.new }
+        ensures opens_behind { StaysOpened self.old self.new }
         ensures disk { WasRead ⟦<D as Disk>⟧ 1 (disk_of self.old) (disk_of self.new) }
         ensures fault { IfErr result (λ e. IsOfReading e ⊎ (e ≡ Refusal.Broken)) }
         ensures device { D.failures (disk_of self.new) ≡ failed_after result (D.failures (disk_of self.old)) }
@@ -140,9 +151,15 @@ impl<D: Disk> Journal<D> {
         requires some { 0 < most }
         ensures few { IfOk result (λ count. count ≤ most) }
         ensures passed { ReadsMore self.old reader.old self.new reader.new result }
+        ensures passed_behind { (front : List ℕ) →
+            ReadsMoreBehind front self.old reader.old self.new reader.new result }
         ensures at_end { HasReadAll self.old reader.old self.new result }
+        ensures at_end_behind { (front : List ℕ) → HasReadAllBehind front self.old reader.old self.new result }
         ensures damaged { TellsTrueDamage self.old reader.old result }
+        ensures damaged_behind { (front : List ℕ) → TellsTrueDamageBehind front self.old reader.old result }
         ensures again { CanBeTriedAgain self.old reader.old self.new reader.new result }
+        ensures again_behind { (front : List ℕ) →
+            CanBeTriedAgainBehind front self.old reader.old self.new reader.new result }
 
         // The journal stays as it is.
         ensures broken_or_not { is_broken self.new ≡ is_broken self.old }

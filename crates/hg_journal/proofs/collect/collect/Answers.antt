@@ -1,6 +1,7 @@
 use Rattle.std.proofs.Common.{rules, inl, inr, ◌++◌, ◌∷◌, [], List, length, ◌∙◌, ap, arith}
 use Rattle.std.proofs.lemmas.List.{length-append}
 use Rattle.hg_model.specs.declared.event.Named.{Named}
+use Rattle.hg_gate.specs.Batches.{header}
 use Rattle.hg_journal.specs.Reading.{disk_of}
 use Rattle.hg_journal.proofs.Collecting.{at_last, found_more, passed_more, stopped, unless_damaged}
 use Rattle.hg_journal.proofs.Journaling.{bytes_now}
@@ -22,7 +23,7 @@ returns-in_err-next-clause-whole g c events honest keeps =
     let l = c.loop-number in
     let read = l.invariant.read events honest keeps in
     unless_damaged c.from_residual-in_err-next.result
-    (λ told. c.next.ensures.damaged read.seen honest read.at (grind arith) events (bytes_now g.D.Disk l.journal events (l.invariant.keeps events keeps)))
+    (λ told. c.next.ensures.damaged read.seen honest read.at (grind arith) events (bytes_now g.D.Disk header l.journal events (l.invariant.keeps events keeps)))
 
 pub returns-in_err-next-clause-disk : goal.returns-in_err-next-clause-disk
 returns-in_err-next-clause-disk g c =
