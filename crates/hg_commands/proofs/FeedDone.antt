@@ -26,7 +26,7 @@ use Rattle.hg_commands.specs.Feeding.{ack_text, acks_text, checkpoint_text, feed
 use Rattle.hg_commands.specs.FeedRunning.{FeedDone, Feeds, IsPrinted, WasCheckpointed, WasCommitted, WasFed, WasMade, WentWell, is_due, place}
 use Rattle.hg_streams.specs.Texts.{number_text}
 use Rattle.hg_streams.specs.Calls.{failed_writes}
-use Rattle.hg_commands.specs.Storing.{failed_calls}
+use Rattle.hg_commands.specs.Storing.{EndsFlushed, failed_calls}
 use Rattle.hg_streams.proofs.Printed.{appends_on, failed_on}
 
 -- no call of an output failed that took a text
@@ -67,8 +67,8 @@ module _ {D : Type 0} (g : disk.Ghosts D) where
 
   pub was_fed : (reads later : List ReadCall) (source : ℕ) (asked is_made : Bool) (s t u w : ShownStore D) (f i : Fed) (o p q r v x : List WriteCall) (end : Ending) → is_made ≡ is_due asked end → f.accepted ≡ 0
       → Took o p (number_text (codes "resume ") ((live g s).last source)) → WentWell g (place s f p) (place t i q) → Feeds g reads later source s.detector.sets (live g s) (live g t) end
-      → WasCommitted g t u → Took q r (ack_text (live g t).events) → WasCheckpointed g is_made u w r v → Took v x (feed_end_text (live g w) end) → (IsTrue g.is_honest → Backs g w) → WasFed g reads later source asked s w o x end
-  was_fed reads later source asked is_made s t u w f i o p q r v x end due none resumed goes feeds committed acked made ended backs =
+      → WasCommitted g t u → Took q r (ack_text (live g t).events) → WasCheckpointed g is_made u w r v → Took v x (feed_end_text (live g w) end) → (IsTrue g.is_honest → Backs g w) → EndsFlushed x → WasFed g reads later source asked s w o x end
+  was_fed reads later source asked is_made s t u w f i o p q r v x end due none resumed goes feeds committed acked made ended backs flushed =
       let kept : live g u ≡ live g t = ap (λ (d : detect.ShownDetector (pool.ShownPool D)). detect.content (pools.live g) d) committed.detector in
       let same = λ (honest : IsTrue g.is_honest). made.live honest ∙ kept in
       let resume = number_text (codes "resume ") ((live g s).last source) in
@@ -83,6 +83,7 @@ module _ {D : Type 0} (g : disk.Ghosts D) where
             let come = goes.printed honest o resume (live g s).events start in
             printed_in_all source (live g s) (live g w) i.accepted made.checkpoint end o q r v x (ap (λ (c : Content). c.events) (same honest) ∙ come.count) come.printed
             (subst (λ (c : Content). Took q r (ack_text c.events)) (sym (same honest)) acked) made.printed ended;
+        flushed = flushed;
         made = subst (λ (b : Bool). WasMade g b w.devices (live g w) made.checkpoint) due (made_of_same is_made w.devices (live g u) (live g w) made.checkpoint made.live made.made);
         quiet = λ none.
             let still = made.quiet (due ∙ none) in
@@ -118,6 +119,7 @@ module _ {D : Type 0} (g : disk.Ghosts D) where
     checkpoint = was.checkpoint;
     feeds = was.feeds;
     printed = was.printed;
+    flushed = was.flushed;
     made = subst (λ (d : Devices D). WasMade g (is_due asked end) d (live g u) was.checkpoint) (sym is) was.made;
     quiet = λ none. calls_stay old new s u calls (was.quiet none) is;
     failures = ap (λ (d : Devices D). failed_calls g d v) is ∙ (was.failures ∙ ap (λ (n : ℕ). n + failed_writes o) failures);

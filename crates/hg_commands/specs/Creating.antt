@@ -19,7 +19,7 @@ use Rattle.hg_commands.specs.declared.moment.Outcome.{Outcome}
 use Rattle.hg_streams.specs.declared.output.Outputs.{Outputs}
 use Rattle.hg_commands.specs.Instants.{Instant, instant}
 use Rattle.hg_streams.specs.Printed.{WereGiven}
-use Rattle.hg_commands.specs.Storing.{failed_calls}
+use Rattle.hg_commands.specs.Storing.{EndsFlushed, failed_calls}
 
 -- a text that does not say `created`: none, or `not empty`
 abbrev pub IsOfNone : List ℕ → Type 0
@@ -45,13 +45,13 @@ module _ {D : Type 0} (g : disk.Ghosts D) where
   abbrev pub IsLeftBy : Devices D → Devices D → Devices D → Type 0
   IsLeftBy old failed new = ((¬ IsEmpty g old) × (new ≡ old)) ⊎ (IsEmpty g old × IsCleared failed new)
 
-  -- Devices without a byte have an empty store now, and that was told.
+  -- Devices without a byte have an empty store now, and that was told and flushed.
   abbrev pub TellsCreated : {V : Type 0} → Devices D → Devices D → Outgoing V → Outgoing V → Type 0
-  TellsCreated old new before after = IsEmpty g old × (read_of g new ≡ empty_image) × Took before.calls after.calls (codes "created\n")
+  TellsCreated old new before after = IsEmpty g old × (read_of g new ≡ empty_image) × Took before.calls after.calls (codes "created\n") × EndsFlushed after.calls
 
-  -- The devices have bytes and were not changed, and that was told.
+  -- The devices have bytes and were not changed, and that was told and flushed.
   abbrev pub TellsNotEmpty : {V : Type 0} → Devices D → Devices D → Outgoing V → Outgoing V → Type 0
-  TellsNotEmpty old new before after = (¬ IsEmpty g old) × (new ≡ old) × Took before.calls after.calls (codes "not empty\n")
+  TellsNotEmpty old new before after = (¬ IsEmpty g old) × (new ≡ old) × Took before.calls after.calls (codes "not empty\n") × EndsFlushed after.calls
 
   -- Why making a store ended by a fault: one call of a device or of the output failed, or memory was refused and none failed;
   -- `mid` are the devices as they were then.

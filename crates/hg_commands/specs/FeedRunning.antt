@@ -37,7 +37,7 @@ use Rattle.hg_streams.specs.Written.{Took, TookFront}
 use Rattle.hg_streams.specs.Faults.{IsTold}
 use Rattle.hg_commands.specs.declared.lines.Fed.{Fed}
 use Rattle.hg_commands.specs.Feeding.{FeedsTo, HasRoom, LiesOnWay, ack_text, acks_text, checkpoint_text, feed_text, sent}
-use Rattle.hg_commands.specs.Storing.{failed_calls}
+use Rattle.hg_commands.specs.Storing.{EndsFlushed, failed_calls}
 use Rattle.hg_commands.specs.FeedFaults.{HasFeedCause}
 
 -- a store, what was fed to it, and the output
@@ -259,11 +259,12 @@ module _ {D : Type 0} (g : disk.Ghosts D) where
     pub works : new.is_broken ≡ false
     pub failures : failures_of g new.devices ≡ failures_of g old.devices
 
-  -- A store was fed all of an input, or up to the line that ended it. Where no checkpoint was due, no root was called.
+  -- A store was fed all of an input, or up to the line that ended it, and what was printed was flushed. Where no checkpoint was due, no root was called.
   pub record WasFed (reads later : List ReadCall) (source : ℕ) (asked : Bool) (old new : ShownStore D) (before after : List WriteCall) (end : Ending) : Type 0 where
     pub checkpoint : Option ℕ
     pub feeds : Feeds reads later source old.detector.sets (live g old) (live g new) end
     pub printed : IsTrue g.is_honest → Took before after (feed_text source (live g old) (live g new) checkpoint end)
+    pub flushed : EndsFlushed after
     pub made : WasMade (is_due asked end) new.devices (live g new) checkpoint
     pub quiet : is_due asked end ≡ false → SameRoots old new
     pub failures : failed_calls g new.devices after ≡ failed_calls g old.devices before
@@ -272,7 +273,7 @@ module _ {D : Type 0} (g : disk.Ghosts D) where
     pub backs : IsTrue g.is_honest → Backs g new
 
   -- What feeding the store on these devices did. The events that were read led from a table and a content to the last content, and exactly
-  -- the text for it was printed. Of honest devices the first content is the one that they read, the table has its sets, and any crash from
+  -- the text for it was printed, and flushed. Of honest devices the first content is the one that they read, the table has its sets, and any crash from
   -- now on leaves the last content. Where a checkpoint was asked for and the input came to its end, it is the newest one of each image. Where
   -- none was due, the roots were called to open the store, and not after that.
   pub record FeedDone (reads later : List ReadCall) (source : ℕ) (asked : Bool) (old new : Devices D) (before after : List WriteCall) (end : Ending) : Type 0 where
@@ -282,6 +283,7 @@ module _ {D : Type 0} (g : disk.Ghosts D) where
     pub checkpoint : Option ℕ
     pub feeds : Feeds reads later source table first last end
     pub printed : IsTrue g.is_honest → Took before after (feed_text source first last checkpoint end)
+    pub flushed : EndsFlushed after
     pub made : WasMade (is_due asked end) new last checkpoint
     pub quiet : is_due asked end ≡ false → RootCallsAtMost g 4 old new
     pub failures : failed_calls g new after ≡ failed_calls g old before

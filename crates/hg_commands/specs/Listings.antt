@@ -17,7 +17,7 @@ use Rattle.hg_streams.specs.Written.{Took, TookFront}
 use Rattle.hg_streams.specs.declared.listing.Listing.{Listing}
 use Rattle.hg_streams.specs.declared.listing.Listing.TheVariants.{Reports, Segments}
 use Rattle.hg_streams.specs.declared.output.Outputs.{Outputs}
-use Rattle.hg_commands.specs.Storing.{IsCounted, NoCallFailed}
+use Rattle.hg_commands.specs.Storing.{EndsFlushed, IsCounted, NoCallFailed}
 use Rattle.hg_commands.specs.Instants.{Instant, WasOpened}
 use Rattle.hg_commands.specs.declared.listing.Listed.{Listed}
 use Rattle.hg_store.specs.Refusals.{IsNotOpened}
@@ -80,9 +80,10 @@ module _ {D V : Type 0} (g : disk.Ghosts D) where
       (IsNotOpened g old new r × (after.calls ≡ before.calls) × (moments ≡ [])) ⊎ ListingBreaks frames old new moments before after r
 
   -- A store was opened with so many frames, and listed; no call of a device failed. What was printed is the listing of what honest devices
-  -- have, and whether there were races is what they count.
+  -- have, and was flushed; and whether there were races is what they count.
   pub record WasListed (listing : Listing) (frames : ℕ) (old new : Devices D) (moments : List (Instant D)) (before after : Outgoing V) (races : Bool) : Type 0 where
     pub prints : ListsContent listing old before after races
+    pub flushed : EndsFlushed after.calls
     pub opened : WasOpened frames before.calls moments new
     pub device : NoCallFailed g old new
 

@@ -6,7 +6,7 @@ use Rattle.hg_store.specs.Shown.{ShownStore, live}
 use Rattle.hg_streams.specs.Shown.{Outgoing}
 use Rattle.hg_streams.specs.Texts.{number_text}
 use Rattle.hg_streams.specs.Written.{Took}
-use Rattle.hg_commands.specs.Storing.{end_text}
+use Rattle.hg_commands.specs.Storing.{EndsFlushed, end_text}
 
 -- The address of the word of the report that a content keeps as number k, from 1 on. There is none where it keeps fewer.
 abbrev pub address_of_race : ℕ → Content → Option ℕ
@@ -18,6 +18,6 @@ module _ {D : Type 0} (g : disk.Ghosts D) where
   abbrev pub FindsRace : ℕ → ShownStore D → Option ℕ → Type 0
   FindsRace k s address = address ≡ address_of_race k (live g s)
 
-  -- It was printed that no report is kept as number k, and the end line of the store.
+  -- It was printed that no report is kept as number k, and the end line of the store; and that was flushed.
   abbrev pub PrintsNoRace : {W : Type 0} → ℕ → ShownStore D → Outgoing W → Outgoing W → Type 0
-  PrintsNoRace k s before after = Took before.calls after.calls (number_text (codes "no race ") k ++ end_text g s)
+  PrintsNoRace k s before after = Took before.calls after.calls (number_text (codes "no race ") k ++ end_text g s) × EndsFlushed after.calls

@@ -12,6 +12,7 @@ ghost use Rattle.hg_streams.specs.Printed.{IsPrintedNow};
 ghost use Rattle.hg_commands.specs.Stepping.{AcksAreKept, Checkpointed, Done, Failed, FailedFor, Fails, FaultIsTold, FedOrFault, FedWhere, FeedsFrom, FrontWhere, IsOnWay, KeepsAcks, LeavesFront, LeftFront, MayHaveTold, StaysKept, FeedsWell, end_of};
 ghost use Rattle.hg_commands.specs.FeedFaults.{IsFeedFault, Rests};
 ghost use Rattle.hg_commands.specs.Instants.{WereOpenWith};
+ghost use Rattle.hg_commands.specs.Storing.{EndsFlushed};
 
 use crate::lines::{Fed, Feeding};
 use crate::listing::hold_end_line;
@@ -105,6 +106,7 @@ fn print_end<D: Disk, W: Write>(
     ensures cause { IfErr result IsStreamFault }
     ensures fault { failed_writes output.new.calls ≡ told result + failed_writes output.old.calls }
     ensures calls { IsPrintedNow output.old.calls output.new.calls (end_of ⟦<D as Disk>⟧ store.now end) }
+    ensures flushed { OnOk result (EndsFlushed output.new.calls) }
 {
     let mut held = Vec::new(alloc);
     hold_last_line(store, end, &mut held)?;

@@ -8,7 +8,7 @@ ghost use Rattle.hg_streams.specs.Written.{Took};
 ghost use Rattle.hg_streams.specs.Faults.{IsStreamFault};
 ghost use Rattle.hg_commands.specs.Listings.{BreaksReports, CantList, CountsRaces, FailedFor, HoldsReports, IsListed, ListedWhere, ListsButHeld, ListsFront, ListsStore, WroteListing};
 ghost use Rattle.hg_store.specs.Limits.{IsFrameCount};
-ghost use Rattle.hg_commands.specs.Storing.{end_text};
+ghost use Rattle.hg_commands.specs.Storing.{EndsFlushed, end_text};
 
 use crate::moment::{Moment, Outcome};
 use hg_disk::Disk;
@@ -101,6 +101,7 @@ fn print_store<D: Disk, W: Write>(
     requires works { store.now.is_broken ≡ false }
     ensures races { IfOk result (CountsRaces ⟦<D as Disk>⟧ store.now) }
     ensures printed { OnOk result (ListsStore ⟦<D as Disk>⟧ listing store.now output.old output.new) }
+    ensures flushed { OnOk result (EndsFlushed output.new.calls) }
     ensures front { OnErr result (ListsFront ⟦<D as Disk>⟧ listing store.now output.old output.new) }
     ensures cause { IfErr result IsStreamFault }
     ensures fault { failed_writes output.new.calls ≡ told result + failed_writes output.old.calls }

@@ -22,3 +22,6 @@ returns-in_err-flush-clause-front g c =
     let text = listing_text c.args.listing (live g.D.Disk c.args.store.now) in
     always_err _ (front_by_flush old c.write_out.new.output.calls c.flush.new.self.calls c.write_out.new.held.items [] text c.in_err-flush.ensures.calls
     (c.in_ok-write_out.ensures.printed old [] text c.in_ok-print_listing.ensures.printed))
+
+pub returns-clause-flushed : goal.returns-clause-flushed
+returns-clause-flushed g c = (c.write_out.new.output.calls, c.in_ok-flush.ensures.calls)

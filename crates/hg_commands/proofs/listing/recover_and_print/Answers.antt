@@ -7,22 +7,23 @@ use Rattle.hg_streams.proofs.Fronts.{on_err_weaker}
 use Rattle.hg_commands.proofs.Openings.{listing_breaks, was_opened}
 use Rattle.hg_commands.proofs.listing.recover_and_print.Goals as goal
 
-listed_too : {X E : Type 0} {P : Type 0} {Q R : X → Type 0} (r : Result X E) → ((x : X) → P → Q x → R x) → OnOk r P → IfOk r Q → IfOk r R
-listed_too (Ok x) f p q = f x p q
-listed_too (Err e) f p q = tt
+listed_too : {X E : Type 0} {P F : Type 0} {Q R : X → Type 0} (r : Result X E) → ((x : X) → P → F → Q x → R x) → OnOk r P → OnOk r F → IfOk r Q → IfOk r R
+listed_too (Ok x) h p f q = h x p f q
+listed_too (Err e) h p f q = tt
 
 pub returns-in-Ok-clause-prints : goal.returns-in-Ok-clause-prints
 returns-in-Ok-clause-prints g c =
     listed_too c.print_store-printed.result
-    (λ races printed counted. record {
+    (λ races printed flushed counted. record {
       prints = λ honest.
           let began = c.in-Ok.ensures.content honest in
           (live g.D.Disk c.in-Ok.store, subst (λ x. HasContent (read_of g.D.Disk c.args.devices) x) (sym began.2.has) began.1, printed, counted);
+      flushed = flushed;
       opened = was_opened c.in-Ok.store c.args.frames c.args.output.now.calls c.new-moments.result c.push.new.self c.of.result c.into_devices.result
           (opened_with g.D.Disk c.in-Ok.store c.args.frames c.profile.result c.profile.ensures c.in-Ok.ensures.limits) c.new-moments.ensures c.push.ensures c.of.ensures c.into_devices.ensures;
       device = ap (failures_of g.D.Disk) c.into_devices.ensures ∙ c.in-Ok.ensures.device;
     })
-    c.print_store-printed.ensures.printed c.print_store-printed.ensures.races
+    c.print_store-printed.ensures.printed c.print_store-printed.ensures.flushed c.print_store-printed.ensures.races
 
 pub returns-in-Ok-clause-cause : goal.returns-in-Ok-clause-cause
 returns-in-Ok-clause-cause g c =
