@@ -1,5 +1,5 @@
 -- A journal file: spare, or a journal with a base.
-use Rattle.std.specs.Prelude.{◌≡◌, ◌⊎◌, ◌≤◌, ℕ, Bool, false, List, [], ◌∷◌, ◌++◌, Result, Ok, Err, OnOk}
+use Rattle.std.specs.Prelude.{◌≡◌, ◌⊎◌, ◌≤◌, ℕ, false, List, [], ◌∷◌, ◌++◌, Result, Ok, Err, OnOk}
 use Rattle.hg_model.specs.declared.event.Named.{Named}
 use Rattle.hg_model.specs.declared.verdict.Refusal.{Refusal}
 use Rattle.hg_model.specs.declared.verdict.Refusal.TheVariants.{Damaged}
@@ -7,13 +7,12 @@ use Rattle.hg_disk.specs.Moments.{Leaves, LeavesOnly}
 use Rattle.hg_disk.specs.State.{settled}
 use Rattle.hg_disk.specs.declared.disk.Disk as disk
 use Rattle.hg_gate.specs.Based as based
-use Rattle.hg_gate.specs.Batches.{IsBased, IsClosed, base_front, closed_gate}
+use Rattle.hg_gate.specs.Batches.{IsClosed, base_front, closed_gate}
 use Rattle.hg_gate.specs.declared.based.TheConstants.{MAX_BASE}
-use Rattle.hg_gate.specs.Log as log
 use Rattle.hg_journal.specs.declared.file.Attached.{Attached}
 use Rattle.hg_journal.specs.declared.file.Attached.TheVariants as attached
 use Rattle.hg_journal.specs.declared.journal.Journal.{Journal}
-use Rattle.hg_journal.specs.Journal.{IsJournalBehind, LeavesJournalBehind, after_refusal}
+use Rattle.hg_journal.specs.Journal.{IsJournalBehind, after_refusal}
 use Rattle.hg_journal.specs.Reading.{KeepsBehind, OpensBehind, disk_of, is_broken}
 
 -- A file is spare, and has no events; or it has these events, numbered from behind the base on: the base is the number of
