@@ -1,7 +1,6 @@
 -- What clients were told is durable in the store that a server leaves, and each event that it accepted is in their conversations.
-use Rattle.std.proofs.Common.{◌≡◌, ◌+◌, ◌≤◌, ◌∷◌, ◌∙◌, arith, inl, ⊎_elim, [], ℕ, All, Contains, List, Option, Some, map, reverse, IfOk, IsOk, IsTrue, OnOk, Result, Ok, Err, Vec, ap, refl, subst, sym}
+use Rattle.std.proofs.Common.{◌≡◌, ◌+◌, ◌≤◌, ◌∷◌, ◌∙◌, arith, inl, ⊎_elim, [], ℕ, All, Contains, List, Option, Some, map, reverse, IfOk, IsTrue, OnOk, Result, Ok, Err, Vec, ap, refl, subst, sym}
 use Rattle.std.specs.List.{sum_by}
-use Rattle.std.proofs.lemmas.Bool.{false≢true}
 use Rattle.std.proofs.lemmas.List.{reverse-append, reverse-reverse}
 use Rattle.std.proofs.lemmas.List.Sums.{sum-map, sum_by-cons, sum_by_push}
 use Rattle.std.proofs.lemmas.List.Elements.{All-cons, All-contains, All-contains_itself, All-head, All-nil, All-push, All-tail, All-weaker}
@@ -152,15 +151,14 @@ module _ {D : Type 0} (g : disk.Ghosts D) where
       subst (λ (s : ShownStore D). P s course.talks) one (subst (λ (t : List (List Transcript)). P start t) (sym same) holds)
 
   -- The events that were accepted are in the conversations, where the shares were taken in, and the store accepted none since.
-  pub still_recorded : {T E U F : Type 0} (ended : Result T E) (taken_in : Result U F) (opening : Option Began) (before : ℕ) (start mid left : ShownStore D) (talks : List (List Transcript)) → opening ≡ Some (began g start)
-      → events_of g start ≡ before → live g left ≡ live g mid → OnOk ended (IsOk taken_in) → (IsTrue g.is_honest → OnOk taken_in (HasEventsOf g opening before mid talks)) → OnOk ended (EventsAreRecorded g start left talks)
-  still_recorded (Ok done) (Ok all) opening before start mid left talks began_so count same gathered has =
+  pub still_recorded : {T E : Type 0} (ended : Result T E) (Whole : Type 0) (opening : Option Began) (before : ℕ) (start mid left : ShownStore D) (talks : List (List Transcript)) → opening ≡ Some (began g start)
+      → events_of g start ≡ before → live g left ≡ live g mid → OnOk ended Whole → (IsTrue g.is_honest → Whole → HasEventsOf g opening before mid talks) → OnOk ended (EventsAreRecorded g start left talks)
+  still_recorded (Ok done) Whole opening before start mid left talks began_so count same whole has =
       λ honest.
-      let events = has honest in
+      let events = has honest whole in
       let are : AcceptedIn g (Some (began g start)) talks events.0 = subst (λ (o : Option Began). AcceptedIn g o talks events.0) began_so events.1 in (
         events.0,
         are,
         ap (λ (c : Content). c.events) same ∙ events.2 ∙ ap (λ n. n + events.0) (sym count),
       )
-  still_recorded (Ok done) (Err e) opening before start mid left talks began_so count same gathered has = absurd (false≢true gathered)
-  still_recorded (Err e) taken_in opening before start mid left talks began_so count same gathered has = tt
+  still_recorded (Err e) Whole opening before start mid left talks began_so count same whole has = tt

@@ -36,6 +36,8 @@ use Rattle.hg_receipts.proofs.register.Register.TheSendSync as register
 use Rattle.hg_desk.specs.contracts.locked.Core as core
 use Rattle.hg_desk.specs.contracts.locked.Core.TheInside as locked
 use Rattle.hg_desk.specs.contracts.shared.Shared as shared
+use Rattle.hg_server.specs.contracts.wire.Guest as guest
+use Rattle.hg_server.specs.contracts.wire.Wire as wire
 
 parts_send : (D : RattleType) → IsSend D → IsSend (parts.the_field D).row
 parts_send D d = struct_send (shape (parts.the_type D)) (
@@ -171,6 +173,16 @@ module _ (D A B : RattleType) (g : disk.Ghosts D.Denot) (o : opening.Ghosts A.De
 
   pub shared_sync : IsSend D → IsSync (shared.the_row D A B g o c l r c' l')
   shared_sync d = let value = core_send d in search (value, sendable, crosses) depth 60 fits 20000
+
+-- A connection that waits for its conversation crosses threads where the connection does.
+wire_field : (S : RattleType) → IsSend S → IsSend (wire.the_field S).row
+wire_field S s = struct_send (shape (wire.the_type S)) (
+  search (sendable, crosses, s) depth 20,
+  (search (sendable, crosses, knot.crosses) depth 20, (search (sendable, crosses, knot.crosses) depth 20, tt)),
+)
+
+pub guest_send : (S : RattleType) → IsSend S → IsSend (guest.the_row S)
+guest_send S s = recorded_send _ _ _ (guest.the_type S).to_one (struct_send (shape (guest.the_type S)) (wire_field S s, tt))
 
 -- A closure crosses threads where all that it captures does.
 module _ (name : Sym) (captured : List RattleType) where

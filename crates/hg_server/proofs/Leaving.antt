@@ -1,5 +1,5 @@
 -- What a server leaves of its devices.
-use Rattle.std.proofs.Common.{◌≡◌, inl, inr, ⊎_elim, ◌⊎◌, ◌+◌, ◌<◌, ◌∙◌, ◌∷◌, [], ℕ, List, ap, map, Result, Ok, Err, IfErr, IsTrue, Bool, true, false, cond, arith, refl, sym, subst}
+use Rattle.std.proofs.Common.{◌≡◌, None, Option, inl, inr, ⊎_elim, ◌⊎◌, ◌+◌, ◌<◌, ◌∙◌, ◌∷◌, [], ℕ, List, ap, map, Result, Ok, Err, IfErr, IsTrue, Bool, true, false, cond, arith, refl, sym, subst}
 use Rattle.hg_model.specs.Contents.{Content}
 use Rattle.hg_model.specs.declared.verdict.Refusal.{Refusal}
 use Rattle.hg_model.specs.declared.verdict.Refusal.TheVariants as refusal
@@ -23,13 +23,16 @@ use Rattle.hg_desk.specs.Going.{LeadsTo, Point, WentOn, began, of_points, oldest
 use Rattle.hg_desk.proofs.Going.{along_of_points, each_of_points, each_to_points, oldest_point}
 use Rattle.hg_store.specs.Limits.{greatest_with, limits_of}
 use Rattle.hg_server.specs.Acknowledged.{LeavesAcksDurable}
-use Rattle.hg_server.specs.Serving.{Served, StoppedEarly, WasOpened, refusal_of, serving_by}
+use Rattle.hg_server.specs.Recording.{Accounts, NoneLacks, held_in, refusal_of}
+use Rattle.hg_server.specs.Serving.{IsAccounted, Served, StoppedEarly, WasOpened, serving_by}
 use Rattle.hg_server.specs.Settling.{IsCommitFault, IsServingFault, IsSettled, SettlesOrBreaks, StopsFor}
 use Rattle.hg_server.specs.declared.course.Course.{Course}
 use Rattle.hg_server.specs.declared.settings.Settings.{Settings}
 use Rattle.hg_server.specs.declared.fault.ServingFault.{ServingFault}
 use Rattle.hg_server.specs.declared.fault.ServingFault.TheVariants as fault
+use Rattle.hg_server.specs.declared.handing.Cut.{Cut}
 use Rattle.hg_server.specs.declared.handing.Taken.{Taken}
+use Rattle.hg_server.specs.declared.wire.Transcript.{Transcript}
 
 -- what holds of an Err, and what follows from it
 pub if_err_weaker : {T E : Type 0} (P Q : E → Type 0) (result : Result T E) → ((e : E) → P e → Q e) → IfErr result P → IfErr result Q
@@ -65,11 +68,11 @@ module _ {D : Type 0} (g : disk.Ghosts D) where
   )
 
   -- why serving a store ended early, by what settling it answers
-  pub stops_for : (connections : ℕ) (old : Devices D) (mid new : ShownStore D) (moments before : List (Devices D)) (taken : Taken) (told : ServingFault) → moments ≡ mid.devices ∷ before
-      → (mid.is_broken ≡ true → failures_of g old < failures_of g mid.devices) → SettlesOrBreaks g mid new connections taken told → StopsFor g connections old moments new taken told
-  stops_for connections old mid new moments before taken told pushed failed is =
-      subst (λ (l : List (Devices D)). StopsFor g connections old l new taken told) (sym pushed) (by is) where
-        by : SettlesOrBreaks g mid new connections taken told → StopsFor g connections old (mid.devices ∷ before) new taken told
+  pub stops_for : (old : Devices D) (mid new : ShownStore D) (moments before : List (Devices D)) (taken : Taken) (told : ServingFault) → moments ≡ mid.devices ∷ before
+      → (mid.is_broken ≡ true → failures_of g old < failures_of g mid.devices) → SettlesOrBreaks g mid new taken told → StopsFor g old moments new taken told
+  stops_for old mid new moments before taken told pushed failed is =
+      subst (λ (l : List (Devices D)). StopsFor g old l new taken told) (sym pushed) (by is) where
+        by : SettlesOrBreaks g mid new taken told → StopsFor g old (mid.devices ∷ before) new taken told
         by (inl broke) = ⊎_elim
             (λ a. inl (a.0, (broke.0, subst (λ (n : ℕ). failures_of g old < n) (sym a.2) (failed a.1), a.2)))
             (λ a. inr (inl (a.0, (broke.0, a.1))))
@@ -77,30 +80,42 @@ module _ {D : Type 0} (g : disk.Ghosts D) where
         by (inr settled) = inr (inr settled)
 
   -- the same as it is printed, where no write had failed
-  pub serving_fault : (connections : ℕ) (old : Devices D) (moments : List (Devices D)) (s : ShownStore D) (taken : Taken) (calls_old calls_new : List WriteCall) (told : ServingFault)
-      → failed_writes calls_new ≡ failed_writes calls_old → StopsFor g connections old moments s taken told → IsServingFault g connections old moments s taken calls_old calls_new (refusal_of told)
-  serving_fault connections old moments s taken calls_old calls_new told none (inl is) = inl (ap refusal_of is.0, is.1)
-  serving_fault connections old moments s taken calls_old calls_new told none (inr (inl is)) = inr (inl (ap refusal_of is.0, is.1))
-  serving_fault connections old moments s taken calls_old calls_new told none (inr (inr is)) =
-      inr (inr (is.0, ⊎_elim (λ a. inl (ap refusal_of a.0, a.1)) (λ a. inr (inl (ap refusal_of a, none))) is.1))
+  pub serving_fault : (old : Devices D) (moments : List (Devices D)) (s : ShownStore D) (taken : Taken) (calls_old calls_new : List WriteCall) (told : ServingFault)
+      → failed_writes calls_new ≡ failed_writes calls_old → StopsFor g old moments s taken told → IsServingFault g old moments s taken calls_old calls_new (refusal_of told)
+  serving_fault old moments s taken calls_old calls_new told none (inl is) = inl (ap refusal_of is.0, is.1)
+  serving_fault old moments s taken calls_old calls_new told none (inr (inl is)) = inr (inl (ap refusal_of is.0, is.1))
+  serving_fault old moments s taken calls_old calls_new told none (inr (inr is)) = inr (inr (is.0, inl (told, is.1, refl, none)))
 
   -- one of the output, or of want of memory, over a store that is settled
-  pub output_fault : (connections : ℕ) (old : Devices D) (moments : List (Devices D)) (s : ShownStore D) (taken : Taken) (calls_old calls_mid calls_new : List WriteCall) (r : Refusal)
-      → failed_writes calls_mid ≡ failed_writes calls_old → IsSettled g s → HasWriteCause calls_mid calls_new r → IsServingFault g connections old moments s taken calls_old calls_new r
-  output_fault connections old moments s taken calls_old calls_mid calls_new r none settled cause = inr (inr (
+  pub output_fault : (old : Devices D) (moments : List (Devices D)) (s : ShownStore D) (taken : Taken) (calls_old calls_mid calls_new : List WriteCall) (r : Refusal)
+      → failed_writes calls_mid ≡ failed_writes calls_old → IsSettled g s → NoneLacks taken → HasWriteCause calls_mid calls_new r → IsServingFault g old moments s taken calls_old calls_new r
+  output_fault old moments s taken calls_old calls_mid calls_new r none settled whole cause = inr (inr (
     settled,
     inr (
-        ⊎_elim
-        (λ memory. inl (memory.0, memory.1 ∙ none))
-        (λ device. inr (device.0, subst (λ (n : ℕ). n < failed_writes calls_new) none device.1))
-        cause),
+      whole,
+      ⊎_elim
+          (λ memory. inl (memory.0, memory.1 ∙ none))
+          (λ device. inr (device.0, subst (λ (n : ℕ). n < failed_writes calls_new) none device.1))
+          cause,
+    ),
   ))
 
   -- by the devices before the store was opened, of which no call failed meanwhile
-  since_opening : (connections : ℕ) (old start : Devices D) (moments : List (Devices D)) (s : ShownStore D) (taken : Taken) (calls_old calls_new : List WriteCall) (r : Refusal)
-      → failures_of g start ≡ failures_of g old → IsServingFault g connections start moments s taken calls_old calls_new r → IsServingFault g connections old moments s taken calls_old calls_new r
-  since_opening connections old start moments s taken calls_old calls_new r same (inl is) = inl (is.0, (is.1.0, subst (λ (n : ℕ). n < failures_of g s.devices) same is.1.1, is.1.2))
-  since_opening connections old start moments s taken calls_old calls_new r same (inr is) = inr is
+  since_opening : (old start : Devices D) (moments : List (Devices D)) (s : ShownStore D) (taken : Taken) (calls_old calls_new : List WriteCall) (r : Refusal)
+      → failures_of g start ≡ failures_of g old → IsServingFault g start moments s taken calls_old calls_new r → IsServingFault g old moments s taken calls_old calls_new r
+  since_opening old start moments s taken calls_old calls_new r same (inl is) = inl (is.0, (is.1.0, subst (λ (n : ℕ). n < failures_of g s.devices) same is.1.1, is.1.2))
+  since_opening old start moments s taken calls_old calls_new r same (inr is) = inr is
+
+  -- what is on record of the conversations of a server that went so
+  pub accounted : (settings : Settings) (course : Course D) (talks : List (List Transcript)) (taken : Taken) → course.talks ≡ talks → course.taken ≡ taken
+      → Accounts settings.connections (held_in talks) taken.count taken.cut → IsAccounted g settings course
+  accounted settings course talks taken same took accounts =
+      subst (λ (t : Taken). Accounts settings.connections (held_in course.talks) t.count t.cut) (sym took)
+      (subst (λ (l : List (List Transcript)). Accounts settings.connections (held_in l) taken.count taken.cut) (sym same) accounts)
+
+  -- where nothing cut it short, it has them all
+  pub whole_accounts : (settings : Settings) (course : Course D) → course.taken.cut ≡ None → IsAccounted g settings course → Accounts settings.connections (held_in course.talks) course.taken.count None
+  whole_accounts settings course whole accounts = subst (λ (o : Option Cut). Accounts settings.connections (held_in course.talks) course.taken.count o) whole accounts
 
   -- a store as it is opened
   pub opened_settled : (old : Devices D) (s : ShownStore D) → IsIdle s → (IsTrue g.is_honest → (c : Content) × HasContent (read_of g old) c × IsFresh g s c) → IsSettled g s
@@ -156,17 +171,18 @@ module _ {D : Type 0} (g : disk.Ghosts D) where
     pub stopped_early : (settings : Settings) (course : Course D) (first : ShownStore D) (left : Devices D) (taken : Taken) (calls_old calls_new : List WriteCall) (r : Refusal) → limits_of start ≡ greatest_with settings.frames
         → course.opened ≡ first ∷ [] → first ≡ start → course.moments ≡ moments → course.left ≡ now ∷ [] → course.taken ≡ taken → left ≡ now.devices → failures_of g start.devices ≡ failures_of g old
         → (IsTrue g.is_honest → (c : Content) × HasContent (read_of g old) c × IsFresh g start c) → (IsTrue g.is_honest → Recovers g old start.devices)
-        → IsServingFault g settings.connections start.devices moments now taken calls_old calls_new r → TookFront calls_old calls_new (serving_by g settings now) → LeavesAcksDurable g course now
+        → IsServingFault g start.devices moments now taken calls_old calls_new r → IsAccounted g settings course → TookFront calls_old calls_new (serving_by g settings now) → LeavesAcksDurable g course now
         → StoppedEarly g settings old course left calls_old calls_new r
-    stopped_early settings course first left taken calls_old calls_new r limits pushed is same ended took devices none content looked cause wrote acked =
+    stopped_early settings course first left taken calls_old calls_new r limits pushed is same ended took devices none content looked cause accounts wrote acked =
         subst (λ (d : Devices D). StoppedEarly g settings old course d calls_old calls_new r) (sym devices) (record {
           store = now;
           left = ended;
           devices = refl;
           began = was_opened settings.frames course first limits pushed is same;
-          cause = subst (λ (ms : List (Devices D)). IsServingFault g settings.connections old ms now course.taken calls_old calls_new r) (sym same)
-              (subst (λ (t : Taken). IsServingFault g settings.connections old moments now t calls_old calls_new r) (sym took)
-              (since_opening settings.connections old start.devices moments now taken calls_old calls_new r none cause));
+          cause = subst (λ (ms : List (Devices D)). IsServingFault g old ms now course.taken calls_old calls_new r) (sym same)
+              (subst (λ (t : Taken). IsServingFault g old moments now t calls_old calls_new r) (sym took)
+              (since_opening old start.devices moments now taken calls_old calls_new r none cause));
+          accounts = accounts;
           served = subst (λ (ms : List (Devices D)). IsTrue g.is_honest → Served g old ms now.devices (live g now)) (sym same) (served content looked);
           wrote = wrote;
           acked = acked;

@@ -1,3 +1,4 @@
+pub mod Recording
 pub mod Serving
 pub mod Settling
 pub mod Flushing

@@ -2,7 +2,6 @@
 use Rattle.std.specs.Prelude.{◌≡◌, ◌⊎◌, ◌++◌, ℕ, List, [], ◌∷◌, Result, Ok, Err, IfErr, IfOk, IsTrue, OnErr, OnOk, codes}
 use Rattle.hg_model.specs.Contents.{Content}
 use Rattle.hg_model.specs.declared.verdict.Refusal.{Refusal}
-use Rattle.hg_model.specs.declared.verdict.Refusal.TheVariants.{Broken, DeviceFault, OutOfMemory}
 use Rattle.hg_disk.specs.declared.disk.Disk as disk
 use Rattle.hg_streams.specs.Shown.{Outgoing}
 use Rattle.hg_streams.specs.declared.call.WriteCall.{WriteCall}
@@ -18,7 +17,6 @@ use Rattle.hg_streams.specs.declared.output.Outputs.{Outputs}
 use Rattle.hg_store.specs.Limits.{greatest_with, limits_of}
 use Rattle.hg_store.specs.Refusals.{IsNotOpened}
 use Rattle.hg_server.specs.declared.fault.ServingFault.{ServingFault}
-use Rattle.hg_server.specs.declared.fault.ServingFault.TheVariants as fault
 use Rattle.hg_server.specs.declared.course.Course.{Course}
 use Rattle.hg_server.specs.declared.serving.Outcome.{Outcome}
 use Rattle.hg_server.specs.declared.serving.Service.{Service}
@@ -26,6 +24,7 @@ use Rattle.hg_server.specs.declared.settings.Place.{Place}
 use Rattle.hg_server.specs.declared.settings.Place.TheVariants as place
 use Rattle.hg_server.specs.declared.settings.Settings.{Settings}
 use Rattle.hg_server.specs.Acknowledged.{LeavesAcksDurable, LeavesEventsRecorded}
+use Rattle.hg_server.specs.Recording.{Accounts, held_in}
 use Rattle.hg_server.specs.Settling.{IsServingFault, IsSettled, StopsFor}
 
 -- how many connections were served, and the end line of a store with this content
@@ -43,12 +42,6 @@ ready_text settings = place_text settings.place
 -- all that a server prints if its store ends with this content
 abbrev pub serving_text : Settings → Content → List ℕ
 serving_text settings c = ready_text settings ++ served_text settings.connections c
-
--- the refusal of the same name
-abbrev pub refusal_of : ServingFault → Refusal
-refusal_of fault.Broken = Broken
-refusal_of fault.DeviceFault = DeviceFault
-refusal_of fault.OutOfMemory = OutOfMemory
 
 -- On success the text was written.
 abbrev pub AddsOnOk : {W T E : Type 0} → (old new : Outgoing W) → List ℕ → Result T E → Type 0
@@ -89,12 +82,20 @@ module _ {D : Type 0} (g : disk.Ghosts D) where
   PrintsFrontOnErr settings s old new ended = OnErr ended (TookFront old.calls new.calls (serving_by settings s))
 
   -- Why serving a store that had these devices ended early.
-  abbrev pub EndsFor : {E : Type 0} → Settings → Devices D → Service D E → ServingFault → Type 0
-  EndsFor settings devices service told = StopsFor g settings.connections devices service.moments service.store service.taken told
+  abbrev pub EndsFor : {E : Type 0} → Devices D → Service D E → ServingFault → Type 0
+  EndsFor devices service told = StopsFor g devices service.moments service.store service.taken told
 
   -- The same with what was printed.
-  abbrev pub EndsByFault : {W E : Type 0} → Settings → Devices D → (old new : Outgoing W) → Service D E → Refusal → Type 0
-  EndsByFault settings devices old new service r = IsServingFault g settings.connections devices service.moments service.store service.taken old.calls new.calls r
+  abbrev pub EndsByFault : {W E : Type 0} → Devices D → (old new : Outgoing W) → Service D E → Refusal → Type 0
+  EndsByFault devices old new service r = IsServingFault g devices service.moments service.store service.taken old.calls new.calls r
+
+  -- What is on record of the conversations, and how many connections workers took, by what cut that short.
+  abbrev pub AccountsFor : {E : Type 0} → Settings → Service D E → Type 0
+  AccountsFor settings service = Accounts settings.connections (held_in service.talks) service.taken.count service.taken.cut
+
+  -- The same of a server that went so.
+  abbrev pub IsAccounted : Settings → Course D → Type 0
+  IsAccounted settings course = Accounts settings.connections (held_in course.talks) course.taken.count course.taken.cut
 
   -- A store was opened, once, with so many frames and the greatest caps. The devices of the oldest moment are as they were then.
   pub record WasOpened (frames : ℕ) (course : Course D) (new : Devices D) : Type 0 where
@@ -115,10 +116,11 @@ module _ {D : Type 0} (g : disk.Ghosts D) where
     pub looked : Recovers g old opened
     pub kept : EachImageAlong g opened moments new (IsOn first last)
 
-  -- A server that came to its end: workers took as many connections as they should, all was printed, each accepted event is durable, and
-  -- each was accepted in a conversation of the course.
+  -- A server that came to its end: workers took as many connections as they should, the course has as many conversations, all was printed,
+  -- each accepted event is durable, and each was accepted in a conversation of the course.
   pub record EndsWell (settings : Settings) (old : Devices D) (course : Course D) (store : ShownStore D) (calls_old calls_new : List WriteCall) : Type 0 where
     pub all_taken : course.taken.count ≡ settings.connections
+    pub all_held : held_in course.talks ≡ settings.connections
     pub printed : Took calls_old calls_new (serving_by settings store)
     pub began : WasOpened settings.frames course store.devices
     pub served : IsTrue g.is_honest → Served old course.moments store.devices (live g store)
@@ -133,13 +135,15 @@ module _ {D : Type 0} (g : disk.Ghosts D) where
     pub quiet : calls_new ≡ calls_old
     pub looked : IsTrue g.is_honest → Recovers g old new
 
-  -- A store was opened, and its server ended early for this cause. A front of what is due for the store that was left was written.
+  -- A store was opened, and its server ended early for this cause. A front of what is due for the store that was left was written. The course
+  -- has the conversation of each connection that workers took, unless memory was refused to take them in, or the threads' counts differ.
   pub record StoppedEarly (settings : Settings) (old : Devices D) (course : Course D) (new : Devices D) (calls_old calls_new : List WriteCall) (r : Refusal) : Type 0 where
     pub store : ShownStore D
     pub left : course.left ≡ store ∷ []
     pub devices : new ≡ store.devices
     pub began : WasOpened settings.frames course new
-    pub cause : IsServingFault g settings.connections old course.moments store course.taken calls_old calls_new r
+    pub cause : IsServingFault g old course.moments store course.taken calls_old calls_new r
+    pub accounts : IsAccounted settings course
     pub served : IsTrue g.is_honest → Served old course.moments new (live g store)
     pub wrote : TookFront calls_old calls_new (serving_by settings store)
     pub acked : LeavesAcksDurable g course store

@@ -7,25 +7,19 @@ use Rattle.hg_store.specs.declared.devices.Devices.{Devices}
 use Rattle.hg_store.specs.Images.{failures_of}
 use Rattle.hg_store.specs.Shown.{ShownStore, live, saved}
 use Rattle.hg_store.specs.Store.{Backs}
+use Rattle.hg_streams.specs.Calls.{failed_writes}
 use Rattle.hg_streams.specs.Faults.{HasWriteCause}
 use Rattle.hg_streams.specs.declared.call.WriteCall.{WriteCall}
 use Rattle.hg_desk.specs.Going.{Began, LeadsTo, WentOn}
 use Rattle.hg_server.specs.declared.fault.ServingFault.{ServingFault}
 use Rattle.hg_server.specs.declared.fault.ServingFault.TheVariants as fault
 use Rattle.hg_server.specs.declared.handing.Taken.{Taken}
+use Rattle.hg_server.specs.Recording.{NoneLacks, WasCut, refusal_of}
 
 -- the newest of some moments, or `now` where there was none
 abbrev pub newest : {X : Type 0} → X → List X → X
 newest now [] = now
 newest now (moment ∷ earlier) = moment
-
--- Workers took fewer connections than so many, and no more came: the gate said stop, the store was broken, or no worker was left.
-abbrev pub WasCutShort : ℕ → Taken → Type 0
-WasCutShort connections taken = (taken.count < connections) × (taken.is_cut_short ≡ true)
-
--- Why workers took too few connections: they were cut short, or memory was refused.
-abbrev pub TookTooFew : ℕ → Taken → ServingFault → Type 0
-TookTooFew connections taken told = ((told ≡ fault.DeviceFault) × WasCutShort connections taken) ⊎ (told ≡ fault.OutOfMemory)
 
 module _ {D : Type 0} (g : disk.Ghosts D) where
   -- If the store `s` went on from its opening, so did the store `t` after it.
@@ -58,9 +52,9 @@ module _ {D : Type 0} (g : disk.Ghosts D) where
       × (((told ≡ fault.Broken) × (old.is_broken ≡ true) × NoneFailed old.devices new.devices)
       ⊎ ((told ≡ fault.DeviceFault) × OneFailed old.devices new.devices))
 
-  -- The commit at the end was refused; or it settled the store, and workers took too few connections.
-  abbrev pub SettlesOrBreaks : (old new : ShownStore D) → ℕ → Taken → ServingFault → Type 0
-  SettlesOrBreaks old new connections taken told = IsCommitFault old new told ⊎ (IsSettled new × TookTooFew connections taken told)
+  -- The commit at the end was refused; or it settled the store, and this is told of what cut the connections short.
+  abbrev pub SettlesOrBreaks : (old new : ShownStore D) → Taken → ServingFault → Type 0
+  SettlesOrBreaks old new taken told = IsCommitFault old new told ⊎ (IsSettled new × WasCut taken told)
 
   -- A store is broken by a call that failed before the last commit, which began at the newest moment.
   abbrev pub BrokeBefore : Devices D → List (Devices D) → ShownStore D → Type 0
@@ -70,17 +64,21 @@ module _ {D : Type 0} (g : disk.Ghosts D) where
   abbrev pub CommitFailed : List (Devices D) → ShownStore D → Type 0
   CommitFailed moments s = (s.is_broken ≡ true) × OneFailed (newest s.devices moments) s.devices
 
-  -- Why serving a store ends early. The store was broken before the last commit, or by it; or it is settled, and workers took too few
-  -- connections.
-  abbrev pub StopsFor : ℕ → Devices D → List (Devices D) → ShownStore D → Taken → ServingFault → Type 0
-  StopsFor connections old moments s taken told =
+  -- Why serving a store ends early. The store was broken before the last commit, or by it; or it is settled, and the connections were cut
+  -- short.
+  abbrev pub StopsFor : Devices D → List (Devices D) → ShownStore D → Taken → ServingFault → Type 0
+  StopsFor old moments s taken told =
       ((told ≡ fault.Broken) × BrokeBefore old moments s)
-      ⊎ (((told ≡ fault.DeviceFault) × CommitFailed moments s) ⊎ (IsSettled s × TookTooFew connections taken told))
+      ⊎ (((told ≡ fault.DeviceFault) × CommitFailed moments s) ⊎ (IsSettled s × WasCut taken told))
 
-  -- The same with what is printed. Where the store is settled, no more connections came, a write of the output failed, or memory was refused
-  -- and no write failed.
-  abbrev pub IsServingFault : ℕ → Devices D → List (Devices D) → ShownStore D → Taken → (calls_old calls_new : List WriteCall) → Refusal → Type 0
-  IsServingFault connections old moments s taken calls_old calls_new r =
+  -- The connections were cut short, which is told, and no write failed.
+  abbrev pub CutIsTold : Taken → (calls_old calls_new : List WriteCall) → Refusal → Type 0
+  CutIsTold taken calls_old calls_new r = (told : ServingFault) × WasCut taken told × (r ≡ refusal_of told) × (failed_writes calls_new ≡ failed_writes calls_old)
+
+  -- The same with what is printed. Where the store is settled, the connections were cut short; or they were not, and a write of the output
+  -- failed, or memory was refused and no write failed.
+  abbrev pub IsServingFault : Devices D → List (Devices D) → ShownStore D → Taken → (calls_old calls_new : List WriteCall) → Refusal → Type 0
+  IsServingFault old moments s taken calls_old calls_new r =
       ((r ≡ Broken) × BrokeBefore old moments s)
       ⊎ (((r ≡ DeviceFault) × CommitFailed moments s)
-      ⊎ (IsSettled s × (((r ≡ DeviceFault) × WasCutShort connections taken) ⊎ HasWriteCause calls_old calls_new r)))
+      ⊎ (IsSettled s × (CutIsTold taken calls_old calls_new r ⊎ (NoneLacks taken × HasWriteCause calls_old calls_new r))))

@@ -2,9 +2,9 @@
 
 ghost use Rattle.std.specs.Prelude.{◌≡◌, ◌∷◌, []};
 
-use crate::handing::Taken;
+use crate::handing::{Cut, Taken};
 use crate::seen::Seen;
-use crate::wire::Transcript;
+use crate::talks::Records;
 use hg_desk::moment::Moment;
 use hg_disk::Disk;
 use hg_store::store::Store;
@@ -18,7 +18,7 @@ pub struct Course<D: Disk> {
     /// The moments since the opening, the newest first, which contracts alone see.
     pub moments: Trail<Moment<D>>,
     /// What was read and written in the conversations of each worker, if its share was taken in. Contracts alone see it.
-    pub talks: Trail<Trail<Transcript>>,
+    pub talks: Records,
     /// The store as it was at the end, if one was opened. Contracts alone see it.
     pub left: Trail<Seen<D>>,
     /// How many connections workers took.
@@ -33,9 +33,9 @@ impl<D: Disk> Course<D> {
         Course {
             opened: Trail::new(),
             moments: Trail::new(),
-            talks: Trail::new(),
+            talks: Records::new(),
             left: Trail::new(),
-            taken: Taken::none(),
+            taken: Taken::lacking(Cut::Unready),
         }
     }
 
@@ -43,7 +43,7 @@ impl<D: Disk> Course<D> {
     pub(crate) fn between(
         opened: Seen<D>,
         moments: Trail<Moment<D>>,
-        talks: Trail<Trail<Transcript>>,
+        talks: Records,
         store: &Store<D>,
         taken: Taken,
     ) -> Course<D>

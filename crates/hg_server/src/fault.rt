@@ -28,7 +28,7 @@ impl From<AllocError> for ServingFault {
 
 /// The refusal of this name, as it is printed.
 impl From<ServingFault> for Refusal {
-    ghost use Rattle.hg_server.specs.Serving.{refusal_of};
+    ghost use Rattle.hg_server.specs.Recording.{refusal_of};
 
     ghost from_gives = { λ fault refusal. refusal ≡ refusal_of fault };
 

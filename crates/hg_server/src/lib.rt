@@ -16,5 +16,6 @@ pub mod serving;
 pub mod settings;
 mod settling;
 mod starting;
+pub mod talks;
 pub mod wire;
 pub mod worker;

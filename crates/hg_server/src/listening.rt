@@ -1,5 +1,6 @@
 //! Where a server takes its connections from: a port of the machine, or a socket in a folder.
 
+use crate::wire::Guest;
 use std::io;
 use std::io::{Read, Write};
 use std::net::{TcpListener, TcpStream};
@@ -32,15 +33,15 @@ pub enum Connection {
 
 impl Listener {
     /// The next connection that waits.
-    pub(crate) fn accept(&self) -> io::Result<Connection> {
+    pub(crate) fn accept(&self) -> io::Result<Guest<Connection>> {
         match self {
             Listener::Port(listener) => {
                 let (stream, _) = listener.accept()?;
-                Ok(Connection::Port(stream))
+                Ok(Guest::new(Connection::Port(stream)))
             }
             Listener::Socket(listener) => {
                 let (stream, _) = listener.accept()?;
-                Ok(Connection::Socket(stream))
+                Ok(Guest::new(Connection::Socket(stream)))
             }
         }
     }

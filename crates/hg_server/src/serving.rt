@@ -1,6 +1,6 @@
 //! The server: a listener, and workers in threads of their own.
 
-ghost use Rattle.std.specs.Prelude.{◌≡◌, ◌+◌, ◌∷◌, All, map, reverse, Some, IfErr, IfOk, IsTrue, OnOk, false};
+ghost use Rattle.std.specs.Prelude.{◌≡◌, ◌+◌, ◌∷◌, All, map, reverse, None, Some, IfErr, IfOk, IsTrue, OnOk, false};
 ghost use Rattle.std.specs.Thread.{IsSend, IsSync};
 ghost use Rattle.hg_store.specs.Shown.{live, saved};
 ghost use Rattle.hg_streams.specs.Faults.{HasWriteCause};
@@ -11,7 +11,8 @@ ghost use Rattle.hg_desk.specs.Blanks.{IsBlankOf};
 ghost use Rattle.hg_desk.specs.Going.{WentOn, WentOnSince, began};
 ghost use Rattle.hg_desk.specs.Told.{nothing_told};
 ghost use Rattle.hg_server.specs.Acknowledged.{AcksAreDurable, BackAreRecorded, BackAreTold, EachLedFromNothing, EventsAreRecorded, HasEventsOf, LedFromNothing, TalksAreDurable, share_of, talks_of};
-ghost use Rattle.hg_server.specs.Serving.{AddsFrontOnErr, AddsOnOk, EndsByFault, EndsEarlyWhere, EndsFor, EndsWellWhere, IsStatusOf, PrintsAllOnOk, PrintsFrontOnErr, ready_text, ServesWell, StopsEarly, served_by};
+ghost use Rattle.hg_server.specs.Recording.{Accounts, held_in};
+ghost use Rattle.hg_server.specs.Serving.{AccountsFor, AddsFrontOnErr, AddsOnOk, EndsByFault, EndsEarlyWhere, EndsFor, EndsWellWhere, IsStatusOf, PrintsAllOnOk, PrintsFrontOnErr, ready_text, ServesWell, StopsEarly, served_by};
 ghost use Rattle.hg_server.specs.Settling.{IsSettled};
 
 use crate::accepting::accept_all;
@@ -19,7 +20,7 @@ use crate::course::Course;
 use crate::ending::hold_end_line;
 use crate::fault::ServingFault;
 use crate::flusher::{Due, flusher};
-use crate::handing::Taken;
+use crate::handing::{Cut, Taken};
 use crate::health::Terms;
 use crate::listening::Listener;
 use crate::piece::{Piece, Station, pieces_for, stations};
@@ -27,7 +28,7 @@ use crate::seen::Seen;
 use crate::settings::{Place, Settings};
 use crate::settling::settle;
 use crate::starting::can_start;
-use crate::wire::Transcript;
+use crate::talks::{Records, Talks};
 use crate::worker::{Gate, Seat, worker};
 use crossbeam_channel::Sender;
 use hg_desk::moment::Moment;
@@ -79,19 +80,16 @@ fn run_workers<
     nudges: Sender<()>,
     door: &Door<G>,
     terms: &Terms,
-) -> (
-    Result<Vec<(Share<A, B>, Trail<Transcript>)>, AllocError>,
-    Taken,
-)
+) -> (Result<Vec<(Share<A, B>, Talks)>, AllocError>, Taken)
     requires new { All (λ s. s ≡ nothing_told) shares.items }
     ensures led { EachLedFromNothing ⟦<D as Disk>⟧ A.start result.0 }
 {
     let Ok(stations) = stations(alloc, shares, pieces) else {
-        return (Err(AllocError), Taken::none());
+        return (Err(AllocError), Taken::lacking(Cut::Unrecorded));
     };
     // No connection waits in it: one is handed over where a worker takes it.
     let Ok((to, from)) = crossbeam_channel::bounded(alloc, 0) else {
-        return (Err(AllocError), Taken::none());
+        return (Err(AllocError), Taken::lacking(Cut::Unrecorded));
     };
     let nudges = &nudges;
     let gate = door.gate;
@@ -99,7 +97,7 @@ fn run_workers<
     let listener = door.listener;
     thread::join(
         rt,
-        move || -> Result<Vec<(Share<A, B>, Trail<Transcript>)>, AllocError>
+        move || -> Result<Vec<(Share<A, B>, Talks)>, AllocError>
             requires { IsSend D.row × IsSync R.row × IsSync G.row × All (λ s. s.share ≡ nothing_told) stations.items }
             ensures { EachLedFromNothing D.Disk A.start result }
         {
@@ -108,7 +106,7 @@ fn run_workers<
             thread::map_vec(
                 rt,
                 stations,
-                &|station: Station<A, B>| -> (Share<A, B>, Trail<Transcript>)
+                &|station: Station<A, B>| -> (Share<A, B>, Talks)
                     requires { station.share ≡ nothing_told }
                     ensures { LedFromNothing D.Disk A.start result }
                 {
@@ -149,20 +147,17 @@ fn run_all<
     pieces: Vec<Piece>,
     begun: u64,
     door: &Door<G>,
-) -> (
-    Result<(Vec<Share<A, B>>, Trail<Trail<Transcript>>), AllocError>,
-    Taken,
-)
+) -> (Result<(Vec<Share<A, B>>, Records), AllocError>, Taken)
     requires new { All (λ s. s ≡ nothing_told) shares.items }
     ensures told { BackAreTold ⟦<D as Disk>⟧ A.start result.0 }
     ensures recorded { BackAreRecorded ⟦<D as Disk>⟧ A.start result.0 }
 {
     let mut shares = shares;
     let Some(share) = shares.pop() else {
-        return (Err(AllocError), Taken::none());
+        return (Err(AllocError), Taken::lacking(Cut::Unrecorded));
     };
     let Ok((to, from)) = crossbeam_channel::unbounded(alloc) else {
-        return (Err(AllocError), Taken::none());
+        return (Err(AllocError), Taken::lacking(Cut::Unrecorded));
     };
     let gate = door.gate;
     let terms = Terms::new(door.settings.silence);
@@ -187,10 +182,7 @@ fn run_all<
                 due,
             )
         },
-        move || -> (
-            Result<Vec<(Share<A, B>, Trail<Transcript>)>, AllocError>,
-            Taken,
-        )
+        move || -> (Result<Vec<(Share<A, B>, Talks)>, AllocError>, Taken)
             requires { All (λ s. s ≡ nothing_told) shares.items }
         { run_workers(rt, alloc, shared, shares, pieces, to, door, terms) },
     );
@@ -203,15 +195,15 @@ fn run_all<
 /// The shares of all threads, that of the flusher first, and the conversations of each worker.
 fn part<A: Opening, B: Column>(
     alloc: Global,
-    worked: Vec<(Share<A, B>, Trail<Transcript>)>,
+    worked: Vec<(Share<A, B>, Talks)>,
     first: Share<A, B>,
-) -> Result<(Vec<Share<A, B>>, Trail<Trail<Transcript>>), AllocError>
+) -> Result<(Vec<Share<A, B>>, Records), AllocError>
     ensures shares { IfOk result (λ r. r.0.items ≡ first ∷ reverse (map share_of worked.items)) }
     ensures talks { IfOk result (λ r. r.1 ≡ map talks_of worked.items) }
 {
     let mut rest = worked;
     let mut shares = Vec::new(alloc);
-    let mut talks = Trail::new();
+    let mut talks = Records::new();
     shares.push(first)?;
     while let Some((share, held)) = rest.pop() {
         shares.push(share)?;
@@ -220,24 +212,35 @@ fn part<A: Opening, B: Column>(
     Ok((shares, talks))
 }
 
-/// Takes the threads' shares in, and the store with them. Gives the workers' conversations, where their shares were taken in.
+/// Takes the threads' shares in, and the store with them. Gives the workers' conversations, where their shares were taken in, and how many
+/// connections workers took: no less were asked for, and the conversation of each is there, or something cut that short.
 fn take_in<D: Disk, A: Opening, B: Column>(
-    back: Result<(Vec<Share<A, B>>, Trail<Trail<Transcript>>), AllocError>,
+    back: Result<(Vec<Share<A, B>>, Records), AllocError>,
     shared: Shared<D, A, B>,
-) -> (TakenIn<D>, Trail<Trail<Transcript>>, Result<(), AllocError>)
+    taken: Taken,
+    connections: u16,
+) -> (TakenIn<D>, Records, Taken)
     requires told { BackAreTold ⟦<D as Disk>⟧ A.start back }
     requires recorded { BackAreRecorded ⟦<D as Disk>⟧ A.start back }
     ensures since { WentOnSince ⟦<D as Disk>⟧ A.start result.0.moments result.0.store }
     ensures durable { IsTrue D.is_honest → TalksAreDurable ⟦<D as Disk>⟧ A.start (saved ⟦<D as Disk>⟧ result.0.store) result.1 }
+    ensures accounts { Accounts connections (held_in result.1) result.2.count result.2.cut }
     ensures recorded { IsTrue D.is_honest
-        → OnOk result.2 (HasEventsOf ⟦<D as Disk>⟧ A.start A.opening result.0.store result.1) }
+        → result.2.cut ≡ None → HasEventsOf ⟦<D as Disk>⟧ A.start A.opening result.0.store result.1 }
 {
     let Ok((shares, talks)) = back else {
-        return (shared.into_store(), Trail::new(), Err(AllocError));
+        let taken = taken.cut_short(Cut::Unrecorded);
+        return (shared.into_store(), Records::new(), taken);
     };
     match gather(shares, shared) {
-        Ok(taken_in) => (taken_in, talks, Ok(())),
-        Err((_, shared, _)) => (shared.into_store(), Trail::new(), Err(AllocError)),
+        Ok(taken_in) => {
+            let taken = taken.compared(&talks, connections);
+            (taken_in, talks, taken)
+        }
+        Err((_, shared, _)) => {
+            let taken = taken.cut_short(Cut::Disputed);
+            (shared.into_store(), Records::new(), taken)
+        }
     }
 }
 
@@ -248,16 +251,17 @@ struct Service<D: Disk, E> {
     /// The moments since the opening, the newest first, which contracts alone see.
     moments: Trail<Moment<D>>,
     /// The conversations of each worker whose share was taken in, which contracts alone see.
-    talks: Trail<Trail<Transcript>>,
-    /// How many connections workers took.
+    talks: Records,
+    /// How many connections workers took, and what cut that short, if something did.
     taken: Taken,
     ended: Result<(), E>,
 }
 
 /// Opens the lock over a store, runs flusher and workers until the connections are served, and takes them in. At `Ok` workers took as many
-/// connections as they should, and all accepted events are durable; each was accepted in one of the conversations. `Broken` says that a device
-/// had failed before the last commit, and broke the store. `DeviceFault` says that this commit failed; or that all accepted events are durable,
-/// and no more connections came. `OutOfMemory` says that memory was refused; all accepted events are durable then.
+/// connections as they should, the conversation of each is there, and all accepted events are durable; each was accepted in one of these
+/// conversations. `Broken` says that a device had failed before the last commit, and broke the store. `DeviceFault` says that this commit failed;
+/// or that all accepted events are durable, and no more connections came. `OutOfMemory` says that memory was refused; all accepted events are
+/// durable then. `taken` has what cut it short.
 ///
 /// It waits until so many connections were served.
 fn serve_by<
@@ -284,10 +288,11 @@ fn serve_by<
     requires settled { IsSettled ⟦<D as Disk>⟧ store }
     ensures went { WentOn ⟦<D as Disk>⟧ (began ⟦<D as Disk>⟧ store) result.moments result.store }
     ensures settled { OnOk result.ended (IsSettled ⟦<D as Disk>⟧ result.store) }
-    ensures taken { OnOk result.ended (result.taken.count ≡ door.now.settings.connections) }
+    ensures taken { OnOk result.ended (result.taken.cut ≡ None) }
+    ensures accounts { AccountsFor ⟦<D as Disk>⟧ door.now.settings result }
     ensures acked { AcksAreDurable ⟦<D as Disk>⟧ store result.store result.talks }
     ensures recorded { OnOk result.ended (EventsAreRecorded ⟦<D as Disk>⟧ store result.store result.talks) }
-    ensures cause { IfErr result.ended (EndsFor ⟦<D as Disk>⟧ door.now.settings store.devices result) }
+    ensures cause { IfErr result.ended (EndsFor ⟦<D as Disk>⟧ store.devices result) }
 {
     let count = usize::from(door.settings.workers) + 1;
     let begun = store.durable().unwrap_or(0);
@@ -298,25 +303,19 @@ fn serve_by<
             return Service {
                 store,
                 moments: Trail::new(),
-                talks: Trail::new(),
-                taken: Taken::none(),
+                talks: Records::new(),
+                taken: Taken::lacking(Cut::Unrecorded),
                 ended: Err(ServingFault::OutOfMemory),
             };
         }
     };
     let (back, taken) = run_all(rt, alloc, &shared, shares, pieces, begun, door);
-    let (back, talks, taken_in) = take_in(back, shared);
+    let (back, talks, taken) = take_in(back, shared, taken, door.settings.connections);
     let TakenIn {
         mut store,
         mut moments,
     } = back;
-    let ended = settle(
-        &mut store,
-        &mut moments,
-        taken_in,
-        &taken,
-        door.settings.connections,
-    );
+    let ended = settle(&mut store, &mut moments, &taken);
     Service {
         store,
         moments,
@@ -407,10 +406,11 @@ fn serve_and_print<
     ensures settled { OnOk result.ended (IsSettled ⟦<D as Disk>⟧ result.store) }
     ensures printed { PrintsAllOnOk ⟦<D as Disk>⟧ door.now.settings result.store output.old output.new result.ended }
     ensures front { PrintsFrontOnErr ⟦<D as Disk>⟧ door.now.settings result.store output.old output.new result.ended }
-    ensures taken { OnOk result.ended (result.taken.count ≡ door.now.settings.connections) }
+    ensures taken { OnOk result.ended (result.taken.cut ≡ None) }
+    ensures accounts { AccountsFor ⟦<D as Disk>⟧ door.now.settings result }
     ensures acked { AcksAreDurable ⟦<D as Disk>⟧ store result.store result.talks }
     ensures recorded { OnOk result.ended (EventsAreRecorded ⟦<D as Disk>⟧ store result.store result.talks) }
-    ensures cause { IfErr result.ended (EndsByFault ⟦<D as Disk>⟧ door.now.settings store.devices output.old output.new result) }
+    ensures cause { IfErr result.ended (EndsByFault ⟦<D as Disk>⟧ store.devices output.old output.new result) }
 {
     let (pieces, acks) = match announce(rt, alloc, door, output) {
         Ok(made) => made,
@@ -418,8 +418,8 @@ fn serve_and_print<
             return Service {
                 store,
                 moments: Trail::new(),
-                talks: Trail::new(),
-                taken: Taken::none(),
+                talks: Records::new(),
+                taken: Taken::lacking(Cut::Unready),
                 ended: Err(refusal),
             };
         }

@@ -1,6 +1,6 @@
 //! What a server does with its store when the connections are served.
 
-ghost use Rattle.std.specs.Prelude.{◌≡◌, ◌∷◌, IfErr, IsOk, OnOk};
+ghost use Rattle.std.specs.Prelude.{◌≡◌, ◌∷◌, IfErr, None, OnOk};
 ghost use Rattle.hg_store.specs.Shown.{live};
 ghost use Rattle.hg_server.specs.Settling.{IsCommitFault, IsSettled, KeepsDurable, SettlesOrBreaks, StillWentOn};
 
@@ -11,7 +11,6 @@ use hg_disk::Disk;
 use hg_model::verdict::Refusal;
 use hg_store::store::Store;
 use hg_trail::Trail;
-use std::alloc::AllocError;
 
 /// How a refused commit is told: `Broken` where the store was broken before it; else a device failed in it.
 fn commit_fault(refusal: Refusal) -> ServingFault
@@ -46,25 +45,20 @@ fn commit_all<D: Disk>(
     }
 }
 
-/// Makes all accepted events of a store durable, whatever came of the workers. Then memory may have been refused to take them in, or they took
-/// fewer connections than they should.
+/// Makes all accepted events of a store durable, whatever came of the workers. Then it tells what cut them short, if something did.
 pub(crate) fn settle<D: Disk>(
     store: &mut Store<D>,
     moments: &mut Trail<Moment<D>>,
-    taken_in: Result<(), AllocError>,
     taken: &Taken,
-    connections: u16,
 ) -> Result<(), ServingFault>
     ensures went { StillWentOn ⟦<D as Disk>⟧ moments.old store.old moments.new store.new }
     ensures moment { moments.new ≡ store.old.devices ∷ moments.old }
     ensures settled { OnOk result (IsSettled ⟦<D as Disk>⟧ store.new) }
     ensures kept { KeepsDurable ⟦<D as Disk>⟧ store.old store.new }
     ensures content { live ⟦<D as Disk>⟧ store.new ≡ live ⟦<D as Disk>⟧ store.old }
-    ensures all { OnOk result (taken.now.count ≡ connections) }
-    ensures gathered { OnOk result (IsOk taken_in) }
-    ensures cause { IfErr result (SettlesOrBreaks ⟦<D as Disk>⟧ store.old store.new connections taken.now) }
+    ensures whole { OnOk result (taken.now.cut ≡ None) }
+    ensures cause { IfErr result (SettlesOrBreaks ⟦<D as Disk>⟧ store.old store.new taken.now) }
 {
     commit_all(store, moments)?;
-    taken_in?;
-    taken.are(connections)
+    taken.whole()
 }

@@ -3,15 +3,17 @@
 ghost use Rattle.std.specs.Prelude.{◌≡◌, ◌≤◌, ◌∷◌, [], length, IfOk};
 ghost use Rattle.hg_streams.specs.Calls.{read_call, write_call};
 
+use crate::listening::Connection;
 use hg_streams::call::{ReadCall, WriteCall};
 use hg_trail::Trail;
+use std::io;
 use std::io::{Error, ErrorKind, Read, Write};
 
-/// What was read and written on a connection, the newest call first, which contracts alone see.
+/// What was read and written on a connection, the newest call first, which contracts alone see. Nothing but the close of a connection makes one.
 #[derive(Drop)]
 pub struct Transcript {
-    pub reads: Trail<ReadCall>,
-    pub writes: Trail<WriteCall>,
+    reads: Trail<ReadCall>,
+    writes: Trail<WriteCall>,
 }
 
 /// A connection, and its reads and writes so far, which take no memory.
@@ -22,17 +24,41 @@ pub(crate) struct Wire<S> {
     writes: Trail<WriteCall>,
 }
 
-impl<S> Wire<S> {
-    /// Wraps a connection that was not read or written yet.
-    pub(crate) fn new(stream: S) -> Wire<S>
+/// A connection that waits for its conversation. It is wrapped where it is accepted: nothing reads it or writes to it from then on until the
+/// conversation opens it.
+#[derive(Drop)]
+pub struct Guest<S> {
+    wire: Wire<S>,
+    ghost unread: { wire.reads ≡ [] },
+    ghost unwritten: { wire.writes ≡ [] },
+}
+
+impl<S> Guest<S> {
+    /// Wraps a connection.
+    pub fn new(stream: S) -> Guest<S> {
+        Guest {
+            wire: Wire {
+                stream,
+                reads: Trail::new(),
+                writes: Trail::new(),
+            },
+        }
+    }
+
+    /// The connection, which its conversation reads and writes. It was not read or written yet.
+    pub(crate) fn open(self) -> Wire<S>
         ensures reads { result.reads ≡ [] }
         ensures writes { result.writes ≡ [] }
     {
-        Wire {
-            stream,
-            reads: Trail::new(),
-            writes: Trail::new(),
-        }
+        let Guest { wire } = self;
+        wire
+    }
+}
+
+impl Guest<Connection> {
+    /// Makes it ready for a worker.
+    pub(crate) fn prepare(&self) -> io::Result<()> {
+        self.wire.stream.prepare()
     }
 }
 

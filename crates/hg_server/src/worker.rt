@@ -10,7 +10,8 @@ ghost use Rattle.hg_server.specs.Talking.{Answered, Carries, Ends, IsAcked, IsCu
 use crate::health::Terms;
 use crate::patience::{Patience, may_read_on};
 use crate::piece::Piece;
-use crate::wire::{Transcript, Wire};
+use crate::talks::Talks;
+use crate::wire::{Guest, Transcript, Wire};
 use crossbeam_channel::{Receiver, Sender};
 use hg_desk::desk::Desk;
 use hg_desk::share::{Column, Opening, Share};
@@ -23,7 +24,6 @@ use hg_protocol::frame::Frame;
 use hg_protocol::put::put_reply;
 use hg_protocol::reply::Reply;
 use hg_streams::streams::{MOST_READS, PIECE_BYTES};
-use hg_trail::Trail;
 use std::alloc::Global;
 use std::io::{Read, Write};
 use std::mem::replace;
@@ -142,11 +142,11 @@ fn put_replies(replies: &[Reply], held: &mut Vec<u8>) -> bool
 
 impl<'a, S> Talk<'a, S> {
     /// A conversation that has not begun.
-    fn new(alloc: Global, stream: S, nudges: &'a Sender<()>) -> Talk<'a, S>
+    fn new(alloc: Global, guest: Guest<S>, nudges: &'a Sender<()>) -> Talk<'a, S>
         ensures { IsNew result }
     {
         Talk {
-            wire: Wire::new(stream),
+            wire: guest.open(),
             desk: Desk::new(),
             feed: Feed::new(alloc),
             replies: Vec::new(alloc),
@@ -370,9 +370,9 @@ fn converse<D: Disk, A: Opening, B: Column, S: Read + Write + Drop, G: Gate, R: 
 pub fn worker<D: Disk, A: Opening, B: Column, S: Read + Write + Drop, G: Gate, R: Wait + Clock>(
     seat: Seat<D, A, B, G, R>,
     piece: Piece,
-    connections: &Receiver<S>,
+    connections: &Receiver<Guest<S>>,
     nudges: &Sender<()>,
-) -> (Share<A, B>, Trail<Transcript>)
+) -> (Share<A, B>, Talks)
     ensures accepted { seat.entry.share.accepted ≤ result.0.accepted }
     ensures durable { seat.entry.share.durable ≤ result.0.durable }
     ensures acks { AreAmong seat.entry.share.acks result.0.acks }
@@ -381,12 +381,12 @@ pub fn worker<D: Disk, A: Opening, B: Column, S: Read + Write + Drop, G: Gate, R
 {
     let mut seat = seat;
     let mut piece = piece;
-    let mut held = Trail::new();
+    let mut held = Talks::new();
     for _ in seat.rt.forever() {
-        let Ok(stream) = connections.recv(seat.rt) else {
+        let Ok(guest) = connections.recv(seat.rt) else {
             break;
         };
-        let mut talk = Talk::new(seat.alloc, stream, nudges);
+        let mut talk = Talk::new(seat.alloc, guest, nudges);
         let course = converse(&mut seat, &mut talk, piece.as_mut_slice());
         held.push(talk.close());
         if course == Course::Stop {

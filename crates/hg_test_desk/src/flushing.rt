@@ -19,6 +19,7 @@ use hg_receipts::Blank as BlankRegister;
 use hg_server::flusher::{Due, flusher};
 use hg_server::health::Terms;
 use hg_server::piece::Piece;
+use hg_server::wire::Guest;
 use hg_server::worker::{OpenGate, Seat, worker};
 use hg_store::store::Store;
 use hg_test_kit::digits::bytes_of;
@@ -190,7 +191,7 @@ fn hold_conversation<A: Opening, B: Column, R: Wait + Clock>(
     let Ok(piece) = Piece::new(table.alloc) else {
         return share;
     };
-    let _ = to.send(table.rt, peer);
+    let _ = to.send(table.rt, Guest::new(peer));
     drop(to);
     let (share, _) = worker(table.seat(share, &OpenGate), piece, &from, nudges);
     share

@@ -1,4 +1,4 @@
-use Rattle.std.proofs.Common.{◌≡◌, inl, inr, refl, sym, subst, IsTrue, OnErr, OnOk}
+use Rattle.std.proofs.Common.{◌≡◌, ◌∙◌, None, ap, inl, inr, refl, sym, subst, IsTrue, OnErr, OnOk}
 use Rattle.std.proofs.lemmas.Result.{IfErr-at_err}
 use Rattle.hg_store.specs.Shown.{live}
 use Rattle.hg_store.proofs.Refusals.{is_not_opened, opened_with}
@@ -7,7 +7,8 @@ use Rattle.hg_server.specs.Serving.{Served, serving_by}
 use Rattle.hg_server.specs.Settling.{IsServingFault, IsSettled}
 use Rattle.hg_server.specs.Acknowledged.{AcksAreDurable, EventsAreRecorded}
 use Rattle.hg_server.proofs.Acknowledged.{leaves}
-use Rattle.hg_server.proofs.Leaving.{opened_settled, served, stopped_early, was_opened}
+use Rattle.hg_server.specs.declared.handing.Taken.{Taken}
+use Rattle.hg_server.proofs.Leaving.{accounted, opened_settled, served, stopped_early, was_opened, whole_accounts}
 use Rattle.hg_server.proofs.serving.recover_and_serve.Goals as goal
 
 pub serve_and_print-store-requires-clause-settled : goal.serve_and_print-store-requires-clause-settled
@@ -29,12 +30,14 @@ returns-in-Err-ended-clause-early g c =
     let served = c.serve_and_print-store.result in
     let old = c.args.output.now.calls in
     let new = c.serve_and_print-store.new.output.calls in
-    let cause = IfErr-at_err (IsServingFault g.D.Disk settings.connections start.devices served.moments served.store served.taken old new) c.in-Err-ended.is c.serve_and_print-store.ensures.cause in
+    let cause = IfErr-at_err (IsServingFault g.D.Disk start.devices served.moments served.store served.taken old new) c.in-Err-ended.is c.serve_and_print-store.ensures.cause in
     let wrote = subst (λ r. OnErr r (TookFront old new (serving_by g.D.Disk settings served.store))) c.in-Err-ended.is c.serve_and_print-store.ensures.front in
     inr (stopped_early g.D.Disk c.args.devices start served.store served.moments c.serve_and_print-store.ensures.went settings c.between-course.result c.of-opened.result
     c.into_devices.result served.taken old new c.in-Err-ended.refusal (opened_with g.D.Disk start settings.frames c.profile.result c.profile.ensures c.in-Ok.ensures.limits)
     c.between-course.ensures.opened c.of-opened.ensures c.between-course.ensures.moments c.between-course.ensures.left c.between-course.ensures.taken c.into_devices.ensures
-    c.in-Ok.ensures.device (λ honest. c.in-Ok.ensures.content honest) (λ honest. c.in-Ok.ensures.images honest) cause wrote
+    c.in-Ok.ensures.device (λ honest. c.in-Ok.ensures.content honest) (λ honest. c.in-Ok.ensures.images honest) cause
+    (accounted g.D.Disk settings c.between-course.result served.talks served.taken c.between-course.ensures.talks c.between-course.ensures.taken c.serve_and_print-store.ensures.accounts)
+    wrote
     (leaves g.D.Disk (λ s. AcksAreDurable g.D.Disk s served.store) start c.between-course.result c.of-opened.result served.talks c.between-course.ensures.opened c.of-opened.ensures
     c.between-course.ensures.talks c.serve_and_print-store.ensures.acked))
 
@@ -46,9 +49,12 @@ returns-in-Ok-ended-clause-well g c =
     let now = result.store in
     let went = c.serve_and_print-store.ensures.went in
     let course = c.between-course.result in
+    let accounts = accounted g.D.Disk settings course result.talks result.taken c.between-course.ensures.talks c.between-course.ensures.taken c.serve_and_print-store.ensures.accounts in
+    let whole = subst (λ r. OnOk r (result.taken.cut ≡ None)) c.in-Ok-ended.is c.serve_and_print-store.ensures.taken in
+    let all = whole_accounts g.D.Disk settings course (ap (λ (t : Taken). t.cut) c.between-course.ensures.taken ∙ whole) accounts in
     record {
-      all_taken = subst (λ t. t.count ≡ settings.connections) (sym c.between-course.ensures.taken)
-          (subst (λ r. OnOk r (result.taken.count ≡ settings.connections)) c.in-Ok-ended.is c.serve_and_print-store.ensures.taken);
+      all_taken = all.0;
+      all_held = all.1 ∙ all.0;
       printed = subst (λ r. OnOk r (Took c.args.output.now.calls c.serve_and_print-store.new.output.calls (serving_by g.D.Disk settings now))) c.in-Ok-ended.is c.serve_and_print-store.ensures.printed;
       began = was_opened g.D.Disk c.args.devices start now result.moments went settings.frames course c.of-opened.result
           (opened_with g.D.Disk start settings.frames c.profile.result c.profile.ensures c.in-Ok.ensures.limits) c.between-course.ensures.opened c.of-opened.ensures c.between-course.ensures.moments;

@@ -1,4 +1,4 @@
-use Rattle.std.proofs.Common.{ℕ, List, refl, sym, subst, OnOk}
+use Rattle.std.proofs.Common.{◌≡◌, ℕ, List, None, inl, inr, refl, sym, subst, OnOk}
 use Rattle.std.proofs.lemmas.Result.{IfErr-at_err, on_ok_weaker}
 use Rattle.hg_model.specs.declared.verdict.Refusal.{Refusal}
 use Rattle.hg_store.specs.Shown.{live}
@@ -20,7 +20,7 @@ pub returns-in-Err-clause-cause : goal.returns-in-Err-clause-cause
 returns-in-Err-clause-cause g c =
     let old = c.args.output.now.calls in
     let new = c.announce.new.output.calls in
-    output_fault g.D.Disk c.args.door.now.settings.connections c.args.store.devices c.new.result c.args.store c.none.result old old new c.in-Err.refusal refl c.requires.settled
+    output_fault g.D.Disk c.args.store.devices c.new.result c.args.store c.lacking.result old old new c.in-Err.refusal refl c.requires.settled (inr c.lacking.ensures.cut)
     (IfErr-at_err (HasWriteCause old new) c.in-Err.is c.announce.ensures.cause)
 
 pub returns-in-Err-ended-clause-cause : goal.returns-in-Err-ended-clause-cause
@@ -31,9 +31,9 @@ returns-in-Err-ended-clause-cause g c =
     let old = c.args.output.now.calls in
     let mid = c.announce.new.output.calls in
     let none = took_failed old mid (ready_text settings) c.in-Ok.ensures.printed in
-    let stops = IfErr-at_err (StopsFor g.D.Disk settings.connections start served.moments served.store served.taken) c.in-Err-ended.is c.serve_by-store.ensures.cause in
-    subst (λ (r : Refusal). IsServingFault g.D.Disk settings.connections start served.moments served.store served.taken old mid r) (sym c.from.ensures)
-    (serving_fault g.D.Disk settings.connections start served.moments served.store served.taken old mid c.in-Err-ended.fault none stops)
+    let stops = IfErr-at_err (StopsFor g.D.Disk start served.moments served.store served.taken) c.in-Err-ended.is c.serve_by-store.ensures.cause in
+    subst (λ (r : Refusal). IsServingFault g.D.Disk start served.moments served.store served.taken old mid r) (sym c.from.ensures)
+    (serving_fault g.D.Disk start served.moments served.store served.taken old mid c.in-Err-ended.fault none stops)
 
 pub returns-in-Ok-ended-clause-cause : goal.returns-in-Ok-ended-clause-cause
 returns-in-Ok-ended-clause-cause g c =
@@ -45,8 +45,9 @@ returns-in-Ok-ended-clause-cause g c =
     let new = c.print_end-ended.new.output.calls in
     let none = took_failed old mid (ready_text settings) c.in-Ok.ensures.printed in
     let settled = subst (λ r. OnOk r (IsSettled g.D.Disk served.store)) c.in-Ok-ended.is c.serve_by-store.ensures.settled in
-    if_err_weaker (HasWriteCause mid new) (IsServingFault g.D.Disk settings.connections start served.moments served.store served.taken old new) c.print_end-ended.result
-    (λ (r : Refusal). output_fault g.D.Disk settings.connections start served.moments served.store served.taken old mid new r none settled)
+    let whole = subst (λ r. OnOk r (served.taken.cut ≡ None)) c.in-Ok-ended.is c.serve_by-store.ensures.taken in
+    if_err_weaker (HasWriteCause mid new) (IsServingFault g.D.Disk start served.moments served.store served.taken old new) c.print_end-ended.result
+    (λ (r : Refusal). output_fault g.D.Disk start served.moments served.store served.taken old mid new r none settled (inl whole))
     c.print_end-ended.ensures.cause
 
 pub print_end-ended-requires : goal.print_end-ended-requires

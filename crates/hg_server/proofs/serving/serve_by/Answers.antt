@@ -1,10 +1,11 @@
-use Rattle.std.proofs.Common.{◌≡◌, ◌<◌, Option, inr, refl, true, sym, subst}
+use Rattle.std.proofs.Common.{◌≡◌, ◌<◌, None, Option, inr, refl, true, sym, subst}
 use Rattle.hg_store.specs.Images.{failures_of}
 use Rattle.hg_store.specs.Shown.{saved}
 use Rattle.hg_desk.specs.Going.{Began, WentOn, began}
 use Rattle.hg_desk.proofs.Going.{went_nowhere}
 use Rattle.hg_server.specs.Settling.{IsSettled, SettlesOrBreaks, StopsFor}
 use Rattle.hg_server.specs.declared.fault.ServingFault.{ServingFault}
+use Rattle.hg_server.specs.declared.handing.Cut.TheVariants.{Unrecorded}
 use Rattle.hg_server.specs.Acknowledged.{TalksAreDurable}
 use Rattle.hg_server.proofs.Acknowledged.{none_durable, still_durable, still_recorded}
 use Rattle.hg_server.proofs.Leaving.{if_err_weaker, stops_for}
@@ -16,7 +17,7 @@ returns-in-Err-clause-went g c =
     (subst (λ ms. WentOn g.D.Disk (began g.D.Disk c.args.store) ms c.args.store) (sym c.new.ensures) (went_nowhere g.D.Disk c.args.store c.requires.settled.backs))
 
 pub returns-in-Err-clause-cause : goal.returns-in-Err-clause-cause
-returns-in-Err-clause-cause g c = inr (inr (subst (λ s. IsSettled g.D.Disk s) (sym c.in-Err.ensures.err.0) c.requires.settled, inr refl))
+returns-in-Err-clause-cause g c = inr (inr (subst (λ s. IsSettled g.D.Disk s) (sym c.in-Err.ensures.err.0) c.requires.settled, (Unrecorded, c.lacking.ensures.cut, refl)))
 
 pub returns-in-Err-clause-acked : goal.returns-in-Err-clause-acked
 returns-in-Err-clause-acked g c = none_durable g.D.Disk c.args.store c.in-Err.store c.new-in-Err.result c.new-in-Err.ensures
@@ -33,8 +34,8 @@ pub returns-clause-recorded : goal.returns-clause-recorded
 returns-clause-recorded g c =
     let taken_in = c.take_in-back.result in
     let settled = c.settle-ended in
-    still_recorded g.D.Disk settled.result taken_in.2 g.A.Opening.start g.A.Column.opening c.args.store taken_in.0.store settled.new.store taken_in.1 c.requires.start c.requires.opening.0
-    settled.ensures.content settled.ensures.gathered (λ honest. c.take_in-back.ensures.recorded honest)
+    still_recorded g.D.Disk settled.result (taken_in.2.cut ≡ None) g.A.Opening.start g.A.Column.opening c.args.store taken_in.0.store settled.new.store taken_in.1 c.requires.start c.requires.opening.0
+    settled.ensures.content settled.ensures.whole (λ honest. c.take_in-back.ensures.recorded honest)
 
 pub returns-clause-went : goal.returns-clause-went
 returns-clause-went g c =
@@ -46,12 +47,11 @@ returns-clause-cause g c =
     let start = c.args.store in
     let mid = c.take_in-back.result.0.store in
     let new = c.settle-ended.new.store in
-    let connections = c.args.door.now.settings.connections in
-    let taken = c.run_all-back.result.1 in
+    let taken = c.take_in-back.result.2 in
     let before = c.take_in-back.result.0.moments in
     let moments = c.settle-ended.new.moments in
     let went = c.take_in-back.ensures.since (began g.D.Disk start) c.requires.start in
     let failed : mid.is_broken ≡ true → failures_of g.D.Disk start.devices < failures_of g.D.Disk mid.devices = λ is. went.broken c.requires.settled.works is in
-    if_err_weaker (SettlesOrBreaks g.D.Disk mid new connections taken) (StopsFor g.D.Disk connections start.devices moments new taken) c.settle-ended.result
-    (λ (told : ServingFault). stops_for g.D.Disk connections start.devices mid new moments before taken told c.settle-ended.ensures.moment failed)
+    if_err_weaker (SettlesOrBreaks g.D.Disk mid new taken) (StopsFor g.D.Disk start.devices moments new taken) c.settle-ended.result
+    (λ (told : ServingFault). stops_for g.D.Disk start.devices mid new moments before taken told c.settle-ended.ensures.moment failed)
     c.settle-ended.ensures.cause

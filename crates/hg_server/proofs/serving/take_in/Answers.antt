@@ -1,4 +1,4 @@
-use Rattle.std.proofs.Common.{subst}
+use Rattle.std.proofs.Common.{◌∙◌, subst, sym}
 use Rattle.hg_store.specs.Shown.{saved}
 use Rattle.hg_desk.specs.Counting.{accepted_in}
 use Rattle.hg_server.specs.Acknowledged.{BackAreRecorded, BackAreTold}
@@ -16,8 +16,11 @@ returns-in-Err-clause-durable g c honest =
     no_talks_durable g.D.Disk g.A.Opening.start (saved g.D.Disk c.into_store-in-Err.result.store) c.new-in-Err.result c.new-in-Err.ensures
 
 pub returns-in-Ok-gather-clause-recorded : goal.returns-in-Ok-gather-clause-recorded
-returns-in-Ok-gather-clause-recorded g c honest = (
+returns-in-Ok-gather-clause-recorded g c honest whole = (
   accepted_in c.in-Ok.shares.items,
   subst (λ r. BackAreRecorded g.D.Disk g.A.Opening.start r) c.in-Ok.is c.requires.recorded,
   c.in-Ok-gather.ensures.events honest,
 )
+
+pub returns-in-Err-clause-recorded : goal.returns-in-Err-clause-recorded
+returns-in-Err-clause-recorded g c honest whole = absurd (cc (sym c.cut_short-taken-in-Err.ensures.cut ∙ whole))
