@@ -1,4 +1,6 @@
 pub mod Exits
+pub mod Explaining
+pub mod Faults
 pub mod Lines
 pub mod Look
 pub mod Looking

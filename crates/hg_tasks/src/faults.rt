@@ -1,5 +1,7 @@
 //! Faults, and what the last line means, told on standard error.
 ghost use Rattle.std.specs.Prelude.{◌≡◌};
+ghost use Rattle.hg_streams.specs.Faults.{IsTold};
+ghost use Rattle.hg_tasks.specs.Faults.{refusal_for};
 
 use crate::directory::{Cause, OpenFault};
 use crate::look::LookDisk;
@@ -16,21 +18,32 @@ use hg_verbose::noted::{NotedReader, NotedWriter};
 use hg_verbose::past::Past;
 use std::alloc::AllocError;
 use std::io;
+use std::io::Write;
 use std::string::String;
 
 /// The refusal by which commands name a cause.
-fn refusal_of(cause: Cause) -> Refusal {
+fn refusal_of(cause: Cause) -> Refusal
+    ensures { result ≡ refusal_for cause }
+{
     match cause {
         Cause::DeviceFault => Refusal::DeviceFault,
         Cause::OutOfMemory => Refusal::OutOfMemory,
     }
 }
 
+/// Tells a cause among the faults. Answers the status of faults, 3.
+fn tell_cause<V: Write>(cause: Cause, faults: &mut Output<V>) -> u8
+    ensures status { result ≡ 3 }
+    ensures told { IsTold faults.old.calls faults.new.calls (refusal_for cause) }
+{
+    end_by_fault(refusal_of(cause), faults)
+}
+
 /// Tells why the program ends at a stream, a file or want of memory of its own, before a command or without one. Answers the status of faults, 3.
 pub fn fail(rt: &HostRuntime, cause: Cause) -> u8
     ensures { result ≡ 3 }
 {
-    end_by_fault(refusal_of(cause), &mut Output::new(rt.stderr()))
+    tell_cause(cause, &mut Output::new(rt.stderr()))
 }
 
 /// Tells why a store could not be opened, in words too where they are asked for. Answers the status of faults, 3.

@@ -3,6 +3,7 @@
 ghost use Rattle.std.specs.Prelude.{◌≡◌, false};
 ghost use Rattle.hg_store.specs.Limits.{IsFrameCount};
 ghost use Rattle.hg_tasks.specs.Exits.{ListsAndExits};
+ghost use Rattle.hg_tasks.specs.Explaining.{ExplainsEvents, ExplainsStore, SaysNoRace};
 
 use crate::directory::{OpenMode, look_at_directory, make_directory, open_directory};
 use crate::events::EventText;
@@ -129,41 +130,76 @@ pub fn print_of_store(
     status
 }
 
-/// Prints the life of the word at an address by the events of a store. They have no lines.
-fn explain_address(rt: &HostRuntime, store: Store<LookDisk<'_>>, address: u64, all: bool) -> u8 {
+/// Prints the life of the word at an address by the events of a store. They have no lines. Answers the status and the streams.
+fn explain_events<D: Disk, W: Write, V: Write>(
+    alloc: Global,
+    store: Store<D>,
+    address: u64,
+    all: bool,
+    output: Output<W>,
+    faults: Output<V>,
+) -> (u8, Streams<EventText<D>, W, V>)
+    ensures { ExplainsEvents store address all output faults result }
+{
     let form = Form { all, lines: false };
     let mut streams = Streams {
-        input: Input::new(EventText::new(rt.alloc(), store)),
-        output: Output::new(rt.stdout()),
-        faults: Output::new(rt.stderr()),
+        input: Input::new(EventText::new(alloc, store)),
+        output,
+        faults,
     };
-    explain(rt.alloc(), address, form, &mut streams)
+    let status = explain(alloc, address, form, &mut streams);
+    (status, streams)
 }
 
 /// Prints that a store keeps no report as this number, and answers the status.
-fn tell_no_race(rt: &HostRuntime, store: &Store<LookDisk<'_>>, number: u32) -> u8
+fn say_no_race<D: Disk, W: Write, V: Write>(
+    alloc: Global,
+    store: &Store<D>,
+    number: u32,
+    outputs: &mut Outputs<W, V>,
+) -> u8
     requires works { store.now.is_broken ≡ false }
+    ensures { SaysNoRace ⟦<D as Disk>⟧ number store.now outputs.old outputs.new result }
 {
-    let mut outputs = plain_outputs(rt);
-    match print_no_race(rt.alloc(), number, store, &mut outputs.output) {
+    match print_no_race(alloc, number, store, &mut outputs.output) {
         Ok(()) => NO_RACE,
         Err(refusal) => end_by_fault(refusal, &mut outputs.faults),
     }
 }
 
-/// Prints the life of a word by the events of a store, or that there is no such report.
-fn explain_store(rt: &HostRuntime, store: Store<LookDisk<'_>>, explaining: Explaining) -> u8
+/// Prints the life of a word by the events of a store, or that there is no such report. Answers the status and the outputs.
+fn explain_store<D: Disk + Drop, W: Write, V: Write>(
+    alloc: Global,
+    store: Store<D>,
+    explaining: Explaining,
+    outputs: Outputs<W, V>,
+) -> (u8, Outputs<W, V>)
     requires works { store.is_broken ≡ false }
+    ensures { ExplainsStore ⟦<D as Disk>⟧ store explaining outputs result }
 {
+    let mut outputs = outputs;
     let address = match explaining.subject {
         Subject::Word { address } => address,
-        Subject::Race { number } => match address_of_race(rt.alloc(), &store, number) {
+        Subject::Race { number } => match address_of_race(alloc, &store, number) {
             Ok(Some(address)) => address,
-            Ok(None) => return tell_no_race(rt, &store, number),
-            Err(refusal) => return end_by_fault(refusal, &mut Output::new(rt.stderr())),
+            Ok(None) => {
+                let status = say_no_race(alloc, &store, number, &mut outputs);
+                return (status, outputs);
+            }
+            Err(refusal) => {
+                let status = end_by_fault(refusal, &mut outputs.faults);
+                return (status, outputs);
+            }
         },
     };
-    explain_address(rt, store, address, explaining.all)
+    let Outputs { output, faults } = outputs;
+    let (status, streams) = explain_events(alloc, store, address, explaining.all, output, faults);
+    let Streams {
+        input: _,
+        output,
+        faults,
+    } = streams;
+    (status, Outputs { output, faults })
 }
 
 /// Prints the life of a word by the events of the store in a directory, or that there is no such report.
@@ -173,7 +209,7 @@ pub fn explain_in(rt: &HostRuntime, directory: &str, explaining: Explaining) -> 
         Err(fault) => return fail_to_open(rt, &fault, false),
     };
     match Store::recover(rt.alloc(), devices, DEFAULT_FRAMES, Caps::profile()) {
-        Ok(store) => explain_store(rt, store, explaining),
+        Ok(store) => explain_store(rt.alloc(), store, explaining, plain_outputs(rt)).0,
         Err((refusal, _)) => end_by_fault(refusal, &mut Output::new(rt.stderr())),
     }
 }

@@ -1,6 +1,7 @@
 //! Commands over the trace on standard input.
 
-ghost use Rattle.hg_tasks.specs.Exits.{ChecksAndExits};
+ghost use Rattle.hg_tasks.specs.Exits.{ChecksAndExits, PrintsAndExits};
+ghost use Rattle.hg_tasks.specs.Explaining.{ExplainsText};
 
 use crate::faults::tell_of_text;
 use crate::status::exit_status;
@@ -48,7 +49,9 @@ fn print_text<T: Threads + Sync, R: Read, W: Write, V: Write>(
     alloc: Global,
     printing: Printing,
     streams: &mut Streams<R, W, V>,
-) -> u8 {
+) -> u8
+    ensures { PrintsAndExits printing result streams.old streams.new }
+{
     match printing {
         Printing::Races { error_exitcode } => {
             check_text(threads, jobs, alloc, error_exitcode, streams)
@@ -94,15 +97,25 @@ pub fn print_of_input<T: Threads + Sync>(
     print_text(threads, jobs, rt.alloc(), printing, &mut plain_streams(rt))
 }
 
-/// Explains a word by the trace on standard input.
-pub fn explain_input(rt: &HostRuntime, explaining: Explaining) -> u8 {
+/// Explains a word by a trace text, and answers the status.
+fn explain_text<R: Read, W: Write, V: Write>(
+    alloc: Global,
+    explaining: Explaining,
+    streams: &mut Streams<R, W, V>,
+) -> u8
+    ensures { ExplainsText explaining result streams.old streams.new }
+{
     let form = Form {
         all: explaining.all,
         lines: true,
     };
-    let mut streams = plain_streams(rt);
     match explaining.subject {
-        Subject::Word { address } => explain(rt.alloc(), address, form, &mut streams),
-        Subject::Race { number } => explain_race(rt.alloc(), number, form, &mut streams),
+        Subject::Word { address } => explain(alloc, address, form, streams),
+        Subject::Race { number } => explain_race(alloc, number, form, streams),
     }
+}
+
+/// Explains a word by the trace on standard input.
+pub fn explain_input(rt: &HostRuntime, explaining: Explaining) -> u8 {
+    explain_text(rt.alloc(), explaining, &mut plain_streams(rt))
 }

@@ -1,2 +1,3 @@
 pub mod Listening
+pub mod Misread
 pub mod Serving

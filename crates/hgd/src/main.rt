@@ -1,6 +1,9 @@
 //! `hgd`: a detector of data races in traces of programs with threads.
 #![tactic(auto)]
 
+ghost use Rattle.std.specs.Prelude.{◌≡◌};
+ghost use Rattle.hgd.specs.Misread.{status_for};
+
 mod listening;
 mod serving;
 mod version;
@@ -10,8 +13,9 @@ use crate::version::VERSION;
 use hg_commands::settings::FeedSettings;
 use hg_options::limits::DEFAULT_FRAMES;
 use hg_options::reading::read;
-use hg_options::task::{Frames, Jobs, Misread, Serving, StoreTask, Task};
+use hg_options::task::{Frames, Jobs, Misread, Serving, Source, StoreTask, Task};
 use hg_streams::listing::Listing;
+use hg_streams::telling::FAULT;
 use hg_tasks::directory::Cause;
 use hg_tasks::faults::fail;
 use hg_tasks::stores::{create_in, explain_in, feed_in, print_of_store};
@@ -36,18 +40,29 @@ fn fault_text(misread: &Misread) -> &'static str {
     }
 }
 
+/// The status of a command line that asks for no task, where its text is printed.
+fn status_of(misread: &Misread) -> u8
+    ensures { result ≡ status_for misread.now }
+{
+    match misread {
+        Misread::Help(_) => 0,
+        Misread::OutOfMemory => FAULT,
+        _ => BAD_COMMAND_LINE,
+    }
+}
+
 /// Prints the text for a command line that asks for no task, and answers the status.
 fn tell_misread(rt: &HostRuntime, misread: &Misread) -> u8 {
-    let (printed, status) = match misread {
-        Misread::Help(text) => (rt.print(text), 0),
-        Misread::Bad(text) => (rt.eprint(text), BAD_COMMAND_LINE),
+    let printed = match misread {
+        Misread::Help(text) => rt.print(text),
+        Misread::Bad(text) => rt.eprint(text),
         Misread::OutOfMemory => return fail(rt, Cause::OutOfMemory),
-        other => (rt.eprint(fault_text(other)), BAD_COMMAND_LINE),
+        other => rt.eprint(fault_text(other)),
     };
     if printed.is_err() {
         return fail(rt, Cause::DeviceFault);
     }
-    status
+    status_of(misread)
 }
 
 /// What becomes of a command line.
@@ -70,6 +85,19 @@ enum Outcome<'a> {
     },
 }
 
+/// How a store is fed.
+fn feed_settings(source: Source, frames: Frames, checkpoint: bool) -> FeedSettings
+    ensures source { result.source ≡ source.number }
+    ensures frames { result.frames ≡ frames.pages }
+    ensures checkpoint { result.checkpoint ≡ checkpoint }
+{
+    FeedSettings {
+        source: source.number,
+        frames: frames.pages,
+        checkpoint,
+    }
+}
+
 /// Does a task on the store in a directory, except serving it.
 fn perform_on_store<'a>(rt: &HostRuntime, directory: &'a str, task: StoreTask) -> Outcome<'a> {
     let status = match task {
@@ -80,11 +108,7 @@ fn perform_on_store<'a>(rt: &HostRuntime, directory: &'a str, task: StoreTask) -
             checkpoint,
             verbose,
         } => {
-            let settings = FeedSettings {
-                source: source.number,
-                frames: frames.pages,
-                checkpoint,
-            };
+            let settings = feed_settings(source, frames, checkpoint);
             feed_in(rt, directory, settings, verbose)
         }
         StoreTask::Reports {

@@ -1,0 +1,18 @@
+use Rattle.std.proofs.Common.{◌∙◌, Some, ap, inl, refl, subst, sym}
+use Rattle.hg_commands.specs.Races.{FindsRace}
+use Rattle.hg_tasks.specs.Explaining.{IsAskedFor}
+use Rattle.hg_tasks.proofs.stores.explain_store.Goals as goal
+use Rattle.hg_tasks.proofs.stores.explain_store.Goals.{in-Word, in-Race+in-Ok-Some}
+
+pub returns : goal.returns
+returns g c = inl (record {
+  address = c.match-explaining.address;
+  asked = elim c.match-explaining.branch [
+      | in-Word w ↦ subst (λ x. IsAskedFor g.D.Disk x c.args.store (Some c.match-explaining.address)) (sym w.in-Word.is) (ap Some w.address-is)
+      | in-Race+in-Ok-Some w ↦ subst (λ x. IsAskedFor g.D.Disk x c.args.store (Some c.match-explaining.address)) (sym w.in-Race.is)
+        (subst (λ x. FindsRace g.D.Disk w.in-Race.number c.args.store x) (w.in-Ok-Some.field-0-is ∙ ap Some (sym w.address-is)) w.in-Ok-Some.ensures.found)
+  ];
+  streams = c.explain_events-status.result.1;
+  explains = c.explain_events-status.ensures;
+  left = (refl, refl);
+})
