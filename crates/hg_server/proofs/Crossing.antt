@@ -81,7 +81,10 @@ pool_send D g d = view_send _ _ _ _ _ (recorded_send _ _ _ (inside.the_type D g)
 log_field : (D : RattleType) (g : disk.Ghosts D.Denot) → IsSend D → IsSend (log.the_field D g).row
 log_field D g d = struct_send (shape (log.the_type D g)) (
   search (sendable, crosses, d) depth 20,
-  (search (sendable, crosses) depth 20, (search (sendable, crosses) depth 20, (search (sendable, crosses) depth 60 fits 20000, tt))),
+  (
+    search (sendable, crosses) depth 20,
+    (search (sendable, crosses) depth 20, (search (sendable, crosses) depth 20, (search (sendable, crosses) depth 60 fits 20000, tt))),
+  ),
 )
 
 journal_field : (D : RattleType) (g : disk.Ghosts D.Denot) → IsSend D → IsSend (journals.the_field D g).row
