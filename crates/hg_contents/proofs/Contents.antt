@@ -9,6 +9,7 @@ use Rattle.hg_cells.specs.declared.cell.Cell.{Cell}
 use Rattle.hg_cells.specs.declared.cell.Cell.TheVariants.{New}
 use Rattle.hg_cells.specs.Cells.{meaning}
 use Rattle.hg_detect.specs.Shown.{report_of}
+use Rattle.hg_gate.specs.Batches.{header}
 use Rattle.hg_journal.proofs.Journals.{one_reading}
 use Rattle.hg_pages.proofs.OneReading.{one_page_in}
 use Rattle.hg_root.specs.declared.parts.PageSlot.{PageSlot}
@@ -73,7 +74,7 @@ content_is_unique image c d small short a b =
     let other = b.stands in
     let root = one_newest (root_of a.checkpoint) one.former (root_of b.checkpoint) other.former image.root0 image.root1 small short one.newest other.newest in
     let start = one_start a.checkpoint b.checkpoint image.slots root one.stand.0 other.stand.0 in
-    let events = one_reading image.journal a.events b.events a.journal b.journal in
+    let events = one_reading header image.journal a.events b.events a.journal b.journal in
     some_is c d
     (sym a.gives.leads ∙ ap (λ (s : Content). followed s (drop s.events a.events)) start
     ∙ ap (λ (es : List Named). followed (start_of b.checkpoint) (drop (start_of b.checkpoint).events es)) events ∙ b.gives.leads)

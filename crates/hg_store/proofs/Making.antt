@@ -12,6 +12,7 @@ use Rattle.std.specs.List.{AllByRecursion}
 use Rattle.hg_model.specs.declared.event.Named.{Named}
 use Rattle.hg_records.specs.Records.{RecordFits}
 use Rattle.hg_disk.specs.State.{IsImage}
+use Rattle.hg_gate.specs.Batches.{header}
 use Rattle.hg_journal.specs.declared.journal.Journal.{Journal}
 use Rattle.hg_root.specs.declared.pair.RootPair.{RootPair}
 use Rattle.hg_contents.specs.Images.{LeadFrom, Gives, content_of}
@@ -134,7 +135,7 @@ module _ {D : Type 0} (g : disk.Ghosts D) where
       gives = subst (λ (c : Content). GivesDurable basis c) (sym saved_is) gives;
       live = ap (λ (p : List Named). followed (saved g (shown_of g s)) p) made.pending ∙ ap (λ (c : Content). Some c) saved_is;
       count = made.durable ∙ ap (λ (c : Content). c.events) (sym saved_is);
-      journal = λ image left. inl (each_image_has g s.journal basis.events based.keeps image left);
+      journal = λ image left. inl (each_image_has g header s.journal basis.events based.keeps image left);
       roots = λ one other is_one is_other.
           let at = still_now g s.checkpointer.phase s.checkpointer.roots (root_of basis.now.checkpoint) basis.now.former s.checkpointer.body.value.items based.stands.roots in
           let first = first_of s.checkpointer.roots in

@@ -28,6 +28,7 @@ use Rattle.hg_detect.specs.Making.{Asks, AsksBy, sets_asked}
 use Rattle.hg_detect.specs.Shown as detect
 use Rattle.hg_cells.specs.Words as words
 use Rattle.hg_disk.specs.declared.disk.Disk as disk
+use Rattle.hg_gate.specs.Batches.{header}
 use Rattle.hg_journal.specs.declared.journal.Journal.{Journal}
 use Rattle.hg_journal.specs.declared.journal.JournalReader.{JournalReader}
 use Rattle.hg_journal.specs.Journal as journals
@@ -213,7 +214,7 @@ module _ {D : Type 0} (g : disk.Ghosts D) where
 
     begins : (events : List Named) → IsJournal (g.state (disk_of new)).contents events → (rest : List Named) × (events ≡ seen ++ (read.since ++ n ∷ rest))
     begins events is =
-        let left = more g new s ((seen ++ read.since) ++ n ∷ []) at events is in
+        let left = more g header new s ((seen ++ read.since) ++ n ∷ []) at events is in
         (left.0, left.1 ∙ append_assoc (seen ++ read.since) (n ∷ []) left.0 ∙ append_assoc seen read.since (n ∷ left.0))
 
     behind : length seen ≡ (content_in first).events → (events : List Named) → IsJournal (g.state (disk_of new)).contents events → (rest : List Named) × (drop (content_in first).events events ≡ read.since ++ n ∷ rest)

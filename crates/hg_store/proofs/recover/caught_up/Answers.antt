@@ -4,6 +4,7 @@ use Rattle.hg_model.specs.declared.verdict.Refusal.{Refusal}
 use Rattle.hg_model.specs.declared.verdict.Refusal.TheVariants.{FullSlots}
 use Rattle.hg_detect.specs.Shown as detect
 use Rattle.hg_disk.specs.State.{DiskState}
+use Rattle.hg_gate.specs.Batches.{header}
 use Rattle.hg_journal.specs.Journal.{IsJournal}
 use Rattle.hg_journal.specs.Reading as journals
 use Rattle.hg_journal.proofs.Journaling.{bytes_now}
@@ -41,7 +42,7 @@ returns-clause-content g c now honest started =
     let led = c.in-Ok.ensures.replayed start.0 honest start.2 started.ready.faithful in
     let stand = c.new-checkpointer.ensures.stands _ now.former started.stands in
     let base = based g.D.Disk g.met.D.Disk.has_its_bytes c.args.detector c.args.roots c.args.number now started new c.replay.ensures.went c.replay.new.journal led.0 c.new-checkpointer.result led.1 led.2 stand c.new-checkpointer.ensures.number in
-    (_, led.0, subst (λ (s : DiskState). IsJournal s.contents led.0) c.replay.ensures.state (bytes_now g.D.Disk c.replay.new.journal led.0 led.1), base.gives, c.made.ensures.fresh (basis_of g.D.Disk led.0 now) base)
+    (_, led.0, subst (λ (s : DiskState). IsJournal s.contents led.0) c.replay.ensures.state (bytes_now g.D.Disk header c.replay.new.journal led.0 led.1), base.gives, c.made.ensures.fresh (basis_of g.D.Disk led.0 now) base)
 
 pub returns-in-Err-clause-damaged : goal.returns-in-Err-clause-damaged
 returns-in-Err-clause-damaged g c now honest started told events d is gives =

@@ -5,6 +5,7 @@ use Rattle.hg_model.specs.declared.event.Named.{Named}
 use Rattle.hg_model.specs.declared.verdict.Refusal.{Refusal}
 use Rattle.hg_disk.specs.State.{DiskState}
 use Rattle.hg_disk.proofs.Staying.{then}
+use Rattle.hg_gate.specs.Batches.{header}
 use Rattle.hg_journal.specs.Journal.{IsJournal}
 use Rattle.hg_journal.specs.Reading.{disk_of}
 use Rattle.hg_journal.proofs.Journaling.{bytes_now}
@@ -55,7 +56,7 @@ returns-clause-sets g c bodies honest opens faithful =
     let count : length skipped.0 ≡ first.events = skipped.1 ∙ c.events-2.ensures ∙ ap (λ (p : Parts). p.events) c.state.ensures in
     on_ok c.follow_rest.result (λ rest. record {
       events = skipped.0 ++ rest.0;
-      is_journal = subst (λ (s : DiskState). IsJournal s.contents (skipped.0 ++ rest.0)) (c.follow_rest.ensures.state ∙ c.skip.ensures.state) (bytes_now g.D.Disk c.follow_rest.new.journal (skipped.0 ++ rest.0) rest.1);
+      is_journal = subst (λ (s : DiskState). IsJournal s.contents (skipped.0 ++ rest.0)) (c.follow_rest.ensures.state ∙ c.skip.ensures.state) (bytes_now g.D.Disk header c.follow_rest.new.journal (skipped.0 ++ rest.0) rest.1);
       fills = subst (λ (l : List Named). Fills l first c.args.detector.now.sets last c.follow_rest.new.detector.sets) (sym (behind_seen skipped.0 rest.0 first.events count)) rest.3;
     }) (c.follow_rest.ensures.followed skipped.0 honest skipped.2 faithful)
 

@@ -2,6 +2,7 @@ use Rattle.std.proofs.Common.{rules, ◌≡◌, ◌+◌, ◌-◌, ◌++◌, leng
 use Rattle.std.proofs.lemmas.List.{length-append}
 use Rattle.hg_disk.specs.State.{DiskState}
 use Rattle.hg_disk.proofs.Staying.{then}
+use Rattle.hg_gate.specs.Batches.{header}
 use Rattle.hg_journal.specs.Journal.{IsJournal}
 use Rattle.hg_journal.specs.Reading.{disk_of}
 use Rattle.hg_journal.proofs.Journaling.{bytes_now}
@@ -25,8 +26,8 @@ returns-then-passed-eq0-clause-damaged g c honest at told events is enough =
     let read = c.loop-left.invariant.read honest at in
     let keeps = c.in_ok-passed.ensures.at_end read.0 honest read.2 c.if-passed-eq0.true in
     let bytes = (g.D.Disk.state (disk_of c.args.journal.now)).contents in
-    let seen : IsJournal bytes read.0 = subst (λ (s : DiskState). IsJournal s.contents read.0) (c.pass.ensures.disk.state ∙ c.loop-left.invariant.state) (bytes_now g.D.Disk c.pass.new.self read.0 keeps) in
-    too_few g.D.Disk read.0 events c.args.count (omega (arith, read.1, c.loop-left-test.true)) (one_reading bytes events read.0 is seen) enough
+    let seen : IsJournal bytes read.0 = subst (λ (s : DiskState). IsJournal s.contents read.0) (c.pass.ensures.disk.state ∙ c.loop-left.invariant.state) (bytes_now g.D.Disk header c.pass.new.self read.0 keeps) in
+    too_few g.D.Disk read.0 events c.args.count (omega (arith, read.1, c.loop-left-test.true)) (one_reading header bytes events read.0 is seen) enough
 
 pub loop-left-preserved : goal.loop-left-preserved
 loop-left-preserved g c = record {

@@ -1,5 +1,6 @@
 use Rattle.std.proofs.Common.{rules, ◌≡◌, ◌-◌, List, take, drop, IfOk, sym, subst}
 use Rattle.hg_model.specs.declared.event.Named.{Named}
+use Rattle.hg_gate.specs.Batches.{header}
 use Rattle.hg_journal.specs.Journal.{IsJournal}
 use Rattle.hg_journal.specs.Reading.{disk_of}
 use Rattle.hg_journal.proofs.Journals.{one_reading}
@@ -34,7 +35,7 @@ returns-clause-events g c events honest is =
     let k = c.self.invariant.stands honest in
     let keeps = (k.1.works (search rules)).journal in
     let here = subst (λ (v : ShownStore g.row.D.Denot). IsJournal (g.D.Disk.state v.devices.journal).contents events) (sym c.self.view_is) is in
-    let all : events ≡ k.0.events = one_reading (g.D.Disk.state (disk_of i.journal)).contents events k.0.events here (bytes_now g.D.Disk i.journal k.0.events keeps) in
+    let all : events ≡ k.0.events = one_reading header (g.D.Disk.state (disk_of i.journal)).contents events k.0.events here (bytes_now g.D.Disk header i.journal k.0.events keeps) in
     subst (λ (es : List Named). IfOk c.collect.result (λ found. found.items ≡ take c.args.max (drop (c.args.from - 1) es))) (sym all) (c.collect.ensures.events k.0.events honest keeps (has_durable g.D.Disk _ k.0 k.1))
 
 pub returns-clause-whole : goal.returns-clause-whole
