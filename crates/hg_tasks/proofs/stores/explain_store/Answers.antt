@@ -8,8 +8,8 @@ pub returns : goal.returns
 returns g c = inl (record {
   address = c.match-explaining.address;
   asked = elim c.match-explaining.branch [
-      | in-Word w ↦ subst (λ x. IsAskedFor g.D.Disk x c.args.store (Some c.match-explaining.address)) (sym w.in-Word.is) (ap Some w.address-is)
-      | in-Race+in-Ok-Some w ↦ subst (λ x. IsAskedFor g.D.Disk x c.args.store (Some c.match-explaining.address)) (sym w.in-Race.is)
+    | in-Word w ↦ subst (λ x. IsAskedFor g.D.Disk x c.args.store (Some c.match-explaining.address)) (sym w.in-Word.is) (ap Some w.address-is)
+    | in-Race+in-Ok-Some w ↦ subst (λ x. IsAskedFor g.D.Disk x c.args.store (Some c.match-explaining.address)) (sym w.in-Race.is)
         (subst (λ x. FindsRace g.D.Disk w.in-Race.number c.args.store x) (w.in-Ok-Some.field-0-is ∙ ap Some (sym w.address-is)) w.in-Ok-Some.ensures.found)
   ];
   streams = c.explain_events-status.result.1;
