@@ -3,6 +3,7 @@ pub mod Decoding
 mod Numbers
 mod Putting
 mod Reading
+pub mod Runs
 pub mod Rising
 pub mod Parting
 pub mod Keeping

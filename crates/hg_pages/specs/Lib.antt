@@ -2,6 +2,7 @@ pub mod Encoded
 pub mod Fault
 pub mod Files
 pub mod Slots
+pub mod Runs
 pub mod Reading
 pub mod Numbers
 pub mod Stored

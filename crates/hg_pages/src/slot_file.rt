@@ -1,9 +1,10 @@
 //! A file of slots, each of which has one page.
-ghost use Rattle.std.specs.Prelude.{◌≡◌, ◌+◌, ◌*◌, ◌<◌, ◌≤◌, ◌↔◌, ℕ, ◌∷◌, length, take, false, IsTrue, OnOk, OnErr, IsErrOf, Err, IfOk, map};
+ghost use Rattle.std.specs.Prelude.{◌≡◌, ◌+◌, ◌-◌, ◌*◌, ◌<◌, ◌≤◌, ◌↔◌, ℕ, ◌∷◌, length, take, false, IsTrue, OnOk, OnErr, IsErrOf, Err, IfOk, map};
 ghost use Rattle.std.specs.Int.{w64, to_be_bytes};
 ghost use Rattle.hg_disk.specs.State.{after_sync, counted};
 ghost use Rattle.hg_disk.specs.Moments.{AddsNoImage, IsNeverShorter};
 ghost use Rattle.hg_disk.specs.Calls.{CallsAtMost};
+ghost use Rattle.hg_pages.specs.Runs.{HasRun};
 ghost use Rattle.hg_pages.specs.Slots.{AreKnown, HasBytes, IsOutside};
 ghost use Rattle.hg_pages.specs.Tables.{EachNamed, IsLeastFree, IsLeastFreeFrom, SomeNames};
 ghost use Rattle.hg_pages.specs.Fault.{failures_after, failures_after_write};
@@ -12,6 +13,7 @@ ghost use Rattle.hg_pages.specs.declared.fault.SlotFault.TheVariants.{Damaged};
 use crate::decoded::{decode_into, page_in};
 use crate::encoded::{EncodedPage, SLOT_LEN};
 use crate::fault::{SlotFault, WriteFault};
+use crate::slot_run::MOST_RUN;
 use crate::table::Table;
 use hg_cells::Page;
 use hg_disk::{Disk, DiskFault};
@@ -208,7 +210,7 @@ impl<D: Disk> SlotFile<D> {
             return Err(SlotFault::Broken);
         }
         let mut bytes = Vec::from_elem(alloc, 0, SLOT_LEN)?;
-        self.fill(slot, &mut bytes)?;
+        self.fill(slot, 1, &mut bytes)?;
         let page = page_in(&bytes);
         Ok(EncodedPage::of(page, bytes))
     }
@@ -236,19 +238,26 @@ impl<D: Disk> SlotFile<D> {
         ensures broken { RefusesIfBroken SlotFault.Broken self.old self.new result }
     {
         let mut bytes = [0; SLOT_LEN];
-        self.fill(slot, &mut bytes)?;
+        self.fill(slot, 1, &mut bytes)?;
         if !decode_into(&bytes, page, segments, sets, cells) {
             return Err(SlotFault::Damaged);
         }
         Ok(())
     }
 
-    // Fills a buffer with the bytes of a slot.
-    fn fill(&mut self, slot: u32, bytes: &mut [u8]) -> Result<(), SlotFault>
-        requires { length bytes.old ≡ SLOT_LEN }
-        ensures read { IsTrue D.is_honest → OnOk result (HasBytes slot bytes.new (known ⟦<D as Disk>⟧ self.old)) }
-        ensures damaged { IsErrOf result SlotFault.Damaged → IsOutside slot (known ⟦<D as Disk>⟧ self.old) }
-        ensures length { length bytes.new ≡ SLOT_LEN }
+    // Fills a buffer with the bytes of so many slots that lie side by side.
+    pub(crate) fn fill(
+        &mut self,
+        first: u32,
+        count: usize,
+        bytes: &mut [u8],
+    ) -> Result<(), SlotFault>
+        requires some { 1 ≤ count }
+        requires most { count ≤ MOST_RUN }
+        requires length { length bytes.old ≡ count * SLOT_LEN }
+        ensures read { IsTrue D.is_honest → OnOk result (HasRun first count bytes.new (known ⟦<D as Disk>⟧ self.old)) }
+        ensures damaged { IsErrOf result SlotFault.Damaged → IsOutside (first + count - 1) (known ⟦<D as Disk>⟧ self.old) }
+        ensures length { length bytes.new ≡ count * SLOT_LEN }
         ensures memory { ¬ IsErrOf result SlotFault.OutOfMemory }
         ensures stays { WasRead ⟦<D as Disk>⟧ 1 self.old self.new }
         ensures device { D.failures (disk_of self.new) ≡ failures_after result (D.failures (disk_of self.old)) }
@@ -257,10 +266,11 @@ impl<D: Disk> SlotFile<D> {
         if self.is_broken {
             return Err(SlotFault::Broken);
         }
-        if !self.has_slot(slot) {
+        let end = (first as u64 + count as u64) * SLOT_LEN as u64;
+        if end > self.disk.len() {
             return Err(SlotFault::Damaged);
         }
-        self.disk.read_at(slot as u64 * SLOT_LEN as u64, bytes)?;
+        self.disk.read_at(first as u64 * SLOT_LEN as u64, bytes)?;
         Ok(())
     }
 }

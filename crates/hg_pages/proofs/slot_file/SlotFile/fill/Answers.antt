@@ -1,7 +1,8 @@
 use Rattle.std.proofs.Common.{◌*◌, ℕ, length, take, drop, refl, ap, ◌∙◌, arith, rules}
 use Rattle.hg_disk.proofs.Moments.{read_leaves}
-use Rattle.hg_pages.specs.Slots.{HasBytes}
-use Rattle.hg_pages.proofs.Keeping.{as_known, read_slot}
+use Rattle.hg_pages.specs.Runs.{HasRun}
+use Rattle.hg_pages.proofs.Keeping.{as_known}
+use Rattle.hg_pages.proofs.Runs.{read_slots}
 use Rattle.hg_pages.proofs.slot_file.SlotFile.fill.Goals as goal
 
 pub returns-in_err-read_at-clause-stays : goal.returns-in_err-read_at-clause-stays
@@ -25,6 +26,6 @@ returns-clause-stays g c = record {
 pub returns-clause-read : goal.returns-clause-read
 returns-clause-read g c honest =
     let file = (g.D.Disk.state c.args.self.now.disk).contents in
-    as_known (HasBytes c.args.slot c.read_at.new.buf) c.args.self.now.is_broken (g.D.Disk.state c.args.self.now.before.value).contents file c.if-self.false
-    (read_slot file c.args.slot (c.args.slot * 3080) c.read_at.new.buf (omega arith) (omega (arith, c.has_slot.ensures.0 c.if-not-has_slot.false))
-    (c.in_ok-read_at.ensures.bytes honest ∙ ap (λ (n : ℕ). take n (drop (c.args.slot * 3080) file)) c.requires))
+    as_known (HasRun c.args.first c.args.count c.read_at.new.buf) c.args.self.now.is_broken (g.D.Disk.state c.args.self.now.before.value).contents file c.if-self.false
+    (read_slots file c.args.first c.args.count (c.args.first * 3080) c.read_at.new.buf (omega arith) (omega (arith, c.len.ensures.value, c.if-end-len.false))
+    (c.in_ok-read_at.ensures.bytes honest ∙ ap (λ (n : ℕ). take n (drop (c.args.first * 3080) file)) c.requires.length))
