@@ -7,6 +7,7 @@ pub mod Sealing
 pub mod Between
 pub mod Entries
 pub mod Pages
+pub mod Runs
 pub mod Calling
 pub mod Threads
 pub mod Maps

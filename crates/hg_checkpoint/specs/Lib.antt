@@ -5,5 +5,6 @@ pub mod Standing
 pub mod Calls
 pub mod Laws
 pub mod NamedPages
+pub mod Runs
 pub mod Restoring
 pub mod Capturing

@@ -1,5 +1,5 @@
 -- Whether a file of slots has what a root names.
-use Rattle.std.specs.Prelude.{◌≡◌, ℕ, List, map, Result, IsErrOf}
+use Rattle.std.specs.Prelude.{◌≡◌, ℕ, List, map, All, Result, IsErrOf}
 use Rattle.hg_cells.specs.declared.cell.Cell.{Cell}
 use Rattle.hg_disk.specs.declared.disk.Disk as disk
 use Rattle.hg_pages.specs.Files.{known}
@@ -24,13 +24,13 @@ abbrev pub entries_of : List PageSlot → List (ℕ × ℕ)
 entries_of pages = map (λ p. (p.page, p.slot)) pages
 
 module _ {D : Type 0} (g : disk.Ghosts D) where
-  -- The same of what is known of a file.
-  abbrev pub HasPageIn : SlotFile D → ℕ → List (List ℕ) → PageSlot → Type 0
-  HasPageIn file segments sets p = HasSomePage segments sets (known g file) p
+  -- The same of each of these pages, in what is known of a file.
+  abbrev pub HasEachIn : SlotFile D → ℕ → List (List ℕ) → List PageSlot → Type 0
+  HasEachIn file segments sets pages = All (HasSomePage segments sets (known g file)) pages
 
-  -- Damaged is told only if the slot does not have the page.
-  abbrev pub LacksPage : {T : Type 0} → SlotFile D → ℕ → List (List ℕ) → PageSlot → Result T SlotFault → Type 0
-  LacksPage file segments sets p result = IsErrOf result Damaged → ¬ HasSomePage segments sets (known g file) p
+  -- Damaged is told only if a slot does not have its page.
+  abbrev pub LacksOne : {T : Type 0} → SlotFile D → ℕ → List (List ℕ) → List PageSlot → Result T SlotFault → Type 0
+  LacksOne file segments sets pages result = IsErrOf result Damaged → ¬ HasEachIn file segments sets pages
 
   -- Damaged is told only if the slots do not have the pages.
   abbrev pub LacksPages : {T : Type 0} → SlotFile D → Parts → Result T SlotFault → Type 0

@@ -64,7 +64,7 @@ fn checked_table<D: Disk>(
 
 /// The detector of a root, over the pool of its pages, with no page in memory. Over an honest disk the slots have the pages
 /// of a checkpoint with the root's parts, and the detector has the content of each such checkpoint. Each page is read once,
-/// with at most one device call. A refusal hands the file back as it was.
+/// with at most one device call a page (`check_slots`). A refusal hands the file back as it was.
 ///
 /// First it refuses with `FullSets` if the root has more sets than the cap, then with `FullSlots` if it names a slot at the
 /// cap or above. Only then it reads.
