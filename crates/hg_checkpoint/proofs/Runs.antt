@@ -48,8 +48,8 @@ one_alone pages i j p q one other =
 pub one_more : (pages : List PageSlot) (n : ℕ) (p q : PageSlot) → 1 ≤ n → slice_get pages 0 ≡ Some p → slice_get pages n ≡ Some q → q.slot ≡ p.slot + n → LieSideBySide (take n pages) → LieSideBySide (take (n + 1) pages)
 one_more pages n p q some first last next run =
     from_first (take (n + 1) pages) p (λ i a is.
-        let there = in_front pages (n + 1) i a is in
-        place i a there.0 there.1 (cases_lt i n))
+    let there = in_front pages (n + 1) i a is in
+    place i a there.0 there.1 (cases_lt i n))
   where
     place : (i : ℕ) (a : PageSlot) → i < n + 1 → slice_get pages i ≡ Some a → (i < n) ⊎ (n ≤ i) → a.slot ≡ p.slot + i
     place i a lt has (inl before) =
