@@ -1,0 +1,3 @@
+pub mod Journals
+pub mod Making
+pub mod Pairs
