@@ -19,29 +19,29 @@ use Rattle.hg_journals.proofs.Keeping.{file_of, former_leaves, former_reads, hav
 module _ {D : Type 0} (g : disk.Ghosts D) where
   -- two disks, each with what it leaves
   pub both : (a b c d : D) (P Q : List ℕ → Type 0) (R : List ℕ → List ℕ → Type 0) → LeavesOnly g a b P → LeavesOnly g c d Q → ((one other : List ℕ) → P one → Q other → R one other) → EachImage g a b c d R
-  both a b c d P Q R first second then = record {
+  both a b c d P Q R first second joins = record {
     first_goes = (first.later, first.has_gone);
     second_goes = (second.later, second.has_gone);
-    each = λ one other may_one may_other. then one other (may_leave g a b P one first may_one) (may_leave g c d Q other second may_other);
+    each = λ one other may_one may_other. joins one other (may_leave g a b P one first may_one) (may_leave g c d Q other second may_other);
   }
 
   -- in the order of the files: a is the file that is not the current one, and becomes b; c is the current one, and becomes d
   pub in_order : (turned : Bool) (a b c d : D) (P Q : List ℕ → Type 0) (R : List ℕ → List ℕ → Type 0) → LeavesOnly g a b P → LeavesOnly g c d Q → ((one other : List ℕ) → P one → Q other → R one other × R other one)
       → EachImage g (if turned then c else a) (if turned then d else b) (if turned then a else c) (if turned then b else d) R
-  in_order false a b c d P Q R first second then = both a b c d P Q R first second (λ one other p q. (then one other p q).0)
-  in_order true a b c d P Q R first second then = both c d a b Q P R second first (λ one other q p. (then other one p q).1)
+  in_order false a b c d P Q R first second joins = both a b c d P Q R first second (λ one other p q. (joins one other p q).0)
+  in_order true a b c d P Q R first second joins = both c d a b Q P R second first (λ one other q p. (joins other one p q).1)
 
   -- the same where the files take turns
   pub in_turn : (turned : Bool) (a b c d : D) (P Q : List ℕ → Type 0) (R : List ℕ → List ℕ → Type 0) → LeavesOnly g a b P → LeavesOnly g c d Q → ((one other : List ℕ) → P one → Q other → R one other × R other one)
       → EachImage g (if turned then c else a) (if not turned then b else d) (if turned then a else c) (if not turned then d else b) R
-  in_turn false a b c d P Q R first second then = both a b c d P Q R first second (λ one other p q. (then one other p q).0)
-  in_turn true a b c d P Q R first second then = both c d a b Q P R second first (λ one other q p. (then other one p q).1)
+  in_turn false a b c d P Q R first second joins = both a b c d P Q R first second (λ one other p q. (joins one other p q).0)
+  in_turn true a b c d P Q R first second joins = both c d a b Q P R second first (λ one other q p. (joins other one p q).1)
 
   -- ---- a pair that keeps events
 
   module _ (p : JournalPair D g) (base : ℕ) (events : List Named) (k : Keeps p base events) where
     pub small : base + length events ≤ MAX_BASE
-    small = omega (arith, p.fits, k.last)
+    small = omega (arith, p.fits, k.ends)
 
     pub small_base : base ≤ MAX_BASE
     small_base = omega (arith, small)
@@ -50,13 +50,13 @@ module _ {D : Type 0} (g : disk.Ghosts D) where
     pub either_way : (later all : List Named) (one other : List ℕ) → all ≡ k.former ++ later → base + length all ≤ MAX_BASE → IsJournalFile one (file_of p.has_spare base k.former) → IsJournalBehind (base_front p.newer_base) other later
         → HaveJournals base all one other × HaveJournals base all other one
     either_way later all one other whole fits is_one is_other =
-        let h = have p.has_spare base p.newer_base k.former later all one other (is_former g p.has_spare p.older base k.former k.older) k.newer_base whole fits is_one is_other in
+        let h = have p.has_spare base p.newer_base k.former later all one other (is_former g p.has_spare p.older base k.former k.older) k.turned_at whole fits is_one is_other in
         (h, swapped base all one other h)
 
-    older_stays : LeavesOnly g (older p) (older p) (λ image. IsJournalFile image (file_of p.has_spare base k.former))
+    pub older_stays : LeavesOnly g (older p) (older p) (λ image. IsJournalFile image (file_of p.has_spare base k.former))
     older_stays = started g (older p) (λ image. IsJournalFile image (file_of p.has_spare base k.former)) (former_leaves g p.has_spare p.older base k.former small_base k.older)
 
-    newer_stays : LeavesOnly g (newer p) (newer p) (λ image. IsJournalBehind (base_front p.newer_base) image k.current)
+    pub newer_stays : LeavesOnly g (newer p) (newer p) (λ image. IsJournalBehind (base_front p.newer_base) image k.current)
     newer_stays = started g (newer p) (λ image. IsJournalBehind (base_front p.newer_base) image k.current) (each_image_has g (base_front p.newer_base) p.newer k.current k.newer)
 
     -- what a read gives

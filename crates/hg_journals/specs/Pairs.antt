@@ -71,9 +71,9 @@ module _ {D : Type 0} {g : disk.Ghosts D} where
     pub newer : KeepsBehind (base_front p.newer_base) p.newer current
     pub whole : events ≡ former ++ current
     pub works : p.is_broken ≡ false
-    pub base : p.base ≡ base
-    pub newer_base : p.newer_base ≡ base + length former
-    pub last : p.last ≡ base + length events
+    pub begins : p.base ≡ base
+    pub turned_at : p.newer_base ≡ base + length former
+    pub ends : p.last ≡ base + length events
 
   -- It keeps some events behind some base.
   abbrev pub KeepsSome : JournalPair D g → Type 0

@@ -1,6 +1,6 @@
 //! Two journal files that take turns: events are appended to the current one, and the other is spare, or has the events
 //! before them.
-ghost use Rattle.std.specs.Prelude.{◌≡◌, ◌+◌, ◌≤◌, ◌∷◌, ◌×◌, [], length, Err, IfOk, IfErr, OnOk, OnErr, IsTrue, true, false};
+ghost use Rattle.std.specs.Prelude.{◌≡◌, ◌+◌, ◌≤◌, ◌∷◌, [], length, Err, IfOk, IfErr, OnOk, OnErr, IsTrue, true, false};
 ghost use Rattle.hg_disk.specs.Calls.{CallsAtMost};
 ghost use Rattle.hg_disk.specs.Moments.{LeavesTorn};
 ghost use Rattle.hg_gate.specs.declared.based.TheConstants.{MAX_BASE as MAX_BASE_OF};
@@ -89,26 +89,17 @@ impl<D: Disk> JournalPair<D> {
             Err((_, journal0)) => return Err((journal0, journal1)),
         };
         match Journal::create_spare(room1, journal1) {
-            Ok(second) => Ok(JournalPair::of_first(first, second)),
+            Ok(second) => Ok(JournalPair {
+                older: second,
+                newer: first,
+                base: 0,
+                newer_base: 0,
+                last: 0,
+                has_spare: true,
+                is_turned: true,
+                is_broken: false,
+            }),
             Err((_, journal1)) => Err((first.into_disk(), journal1)),
-        }
-    }
-
-    // The pair of a new journal and a spare file.
-    fn of_first(first: Journal<D>, second: Journal<D>) -> JournalPair<D>
-        requires first { journal.is_broken first ≡ false }
-        requires second { journal.is_broken second ≡ false }
-        ensures parts { result.newer ≡ first }
-    {
-        JournalPair {
-            older: second,
-            newer: first,
-            base: 0,
-            newer_base: 0,
-            last: 0,
-            has_spare: true,
-            is_turned: true,
-            is_broken: false,
         }
     }
 
