@@ -1,3 +1,4 @@
+pub mod Finding
 pub mod Keeping
 pub mod Imaging
 pub mod Stepping

@@ -1,3 +1,4 @@
+pub mod Attaching
 pub mod Journals
 pub mod Making
 pub mod Pairs

@@ -1,6 +1,9 @@
 //! The events of a store in two journal files that take turns.
 #![tactic(auto)]
 
+mod attach;
+mod count;
+mod file;
 pub mod laws;
 mod pair;
 
