@@ -2,3 +2,4 @@ pub mod Finding
 pub mod Keeping
 pub mod Imaging
 pub mod Stepping
+pub mod Walking

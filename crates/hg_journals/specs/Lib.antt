@@ -2,3 +2,4 @@ pub mod Attaching
 pub mod Journals
 pub mod Making
 pub mod Pairs
+pub mod Reading

@@ -6,5 +6,7 @@ mod count;
 mod file;
 pub mod laws;
 mod pair;
+mod reader;
 
 pub use pair::JournalPair;
+pub use reader::PairReader;
