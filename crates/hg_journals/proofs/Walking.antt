@@ -1,5 +1,5 @@
 -- How far a pair was read.
-use Rattle.std.proofs.Common.{◌≡◌, ◌≢◌, ◌⊎◌, inl, inr, ◌≤◌, ◌+◌, ℕ, Bool, true, false, IsTrue, List, [], ◌∷◌, ◌++◌, length, map, Option, Some, None, MatchOption, Result, Ok, Err, IfOk, IfErr, OnErr, IsErrOf, refl, sym, ◌∙◌, ap, subst, arith, length-append, append-nil, append_assoc, if◌then◌else◌}
+use Rattle.std.proofs.Common.{◌≡◌, ◌≢◌, ◌⊎◌, inl, inr, ◌≤◌, ◌+◌, ℕ, zero, suc, Bool, true, false, IsTrue, List, [], ◌∷◌, ◌++◌, length, map, Option, Some, None, MatchOption, Result, Ok, Err, IfOk, IfErr, OnErr, IsErrOf, refl, sym, ◌∙◌, ap, subst, arith, length-append, append-nil, append_assoc, if◌then◌else◌}
 use Rattle.hg_model.specs.declared.event.Named.{Named}
 use Rattle.hg_model.specs.declared.verdict.Refusal.{Refusal}
 use Rattle.hg_model.specs.declared.verdict.Refusal.TheVariants.{Broken, Damaged, DeviceFault, OutOfMemory}
@@ -7,7 +7,7 @@ use Rattle.std.proofs.lemmas.Bool.{true≢false}
 use Rattle.hg_disk.specs.declared.disk.Disk as disk
 use Rattle.hg_disk.specs.State.{DiskState, IsImage, settled}
 use Rattle.hg_disk.proofs.Moments.{started}
-use Rattle.hg_gate.specs.Batches.{IsClosed, base_front}
+use Rattle.hg_gate.specs.Batches.{IsClosed, IsLog, base_front}
 use Rattle.hg_gate.specs.Log.{Has}
 use Rattle.hg_gate.specs.Reading.{WasRead}
 use Rattle.hg_gate.proofs.Grammar as grammar
@@ -67,6 +67,27 @@ module _ {D : Type 0} (g : disk.Ghosts D) where
   pub one_former : (spare : Bool) (j : Journal D g) (base : ℕ) (xs ys : List Named) → KeepsFormer spare j base xs → KeepsFormer spare j base ys → xs ≡ ys
   one_former true j base xs ys one other = one.1 ∙ sym other.1
   one_former false j base xs ys one other = one_list (base_front base) j j xs ys refl one.0 other.0
+
+  -- A journal whose events are being read keeps what it kept,
+  pub keeps_at : (front : List ℕ) (j k : Journal D g) (events seen : List Named) (r : JournalReader) → g.state (disk_of k) ≡ g.state (disk_of j) → KeepsBehind front j events → IsAtBehind front k r seen → KeepsBehind front k events
+  keeps_at front j k events seen r state h at =
+      let bodies : map batch_text h.batches ≡ (map batch_text at.past ++ at.present) ++ at.later =
+      grammar.one_reading front (g.state (disk_of k)).contents (map batch_text h.batches) ((map batch_text at.past ++ at.present) ++ at.later)
+      (subst (λ (s : DiskState). IsLog front s.contents (map batch_text h.batches)) (sym state) h.has.reads.has) at.has.reads.has in
+      record { batches = h.batches; has = subst (λ (l : List (List ℕ)). Has front k.log l) (sym bodies) at.has; fits = h.fits; whole = h.whole }
+
+  -- and so does one whose events were all read.
+  keeps_end : (front : List ℕ) (j k : Journal D g) (events seen : List Named) → g.state (disk_of k) ≡ g.state (disk_of j) → KeepsBehind front j events → KeepsBehind front k seen → KeepsBehind front k events
+  keeps_end front j k events seen state h end = subst (λ (l : List Named). KeepsBehind front k l) (sym (one_list front j k events seen state h end)) end
+
+  -- after it was passed on
+  pub keeps_passed : {E : Type 0} (front : List ℕ) (j k : Journal D g) (events seen : List Named) (r : JournalReader) (result : Result ℕ E) → g.state (disk_of k) ≡ g.state (disk_of j) → KeepsBehind front j events
+      → IfOk result (λ count. 1 ≤ count → (more : List Named) × (length more ≡ count) × IsAtBehind front k r (seen ++ more)) → IfOk result (λ count. count ≡ 0 → KeepsBehind front k seen) → OnErr result (IsAtBehind front k r seen)
+      → KeepsBehind front k events
+  keeps_passed front j k events seen r (Ok zero) state h passed end again = keeps_end front j k events seen state h (end refl)
+  keeps_passed front j k events seen r (Ok (suc n)) state h passed end again =
+      let more = passed (omega arith) in keeps_at front j k events (seen ++ more.0) r state h more.2
+  keeps_passed front j k events seen r (Err e) state h passed end again = keeps_at front j k events seen r state h again
 
   unread : (n : ℕ) (d : D) → WasRead g n d d
   unread n d = record { state = refl; any_moment = started g d (IsImage (g.state d)) (λ image is. is); calls = omega arith }
@@ -169,6 +190,19 @@ module _ {D : Type 0} (g : disk.Ghosts D) where
       next_newer (Ok found) h = found_one found h
       next_newer (Err e) h = tt
 
+      some_more : (count : ℕ) → (1 ≤ count → (more : List Named) × (length more ≡ count) × IsAtBehind (base_front p.newer_base) j r (read ++ more)) → (count ≡ 0 → KeepsBehind (base_front p.newer_base) j read)
+          → ((count ≡ 0) × (seen ≡ events)) ⊎ ((1 ≤ count) × (more : List Named) × (length more ≡ count) × ReadsTo (seen ++ more))
+      some_more zero passed end = inl (refl, all_read (end refl))
+      some_more (suc n) passed end =
+          let some : 1 ≤ suc n = omega arith in
+          let more = passed some in
+          inr (some, more.0, more.1, (former, read ++ more.0, kf, more.2, ap (λ (l : List Named). l ++ more.0) is ∙ append_assoc former read more.0))
+
+      pub more_newer : {E : Type 0} (result : Result ℕ E) → IfOk result (λ count. 1 ≤ count → (more : List Named) × (length more ≡ count) × IsAtBehind (base_front p.newer_base) j r (read ++ more))
+          → IfOk result (λ count. count ≡ 0 → KeepsBehind (base_front p.newer_base) j read) → IfOk result (λ count. ((count ≡ 0) × (seen ≡ events)) ⊎ ((1 ≤ count) × (more : List Named) × (length more ≡ count) × ReadsTo (seen ++ more)))
+      more_newer (Ok count) passed end = some_more count passed end
+      more_newer (Err e) passed end = tt
+
       pub stays_newer : {T : Type 0} (result : Result T Refusal) → (IsErrOf result Damaged → IsNoJournalBehind (base_front p.newer_base) (g.state (newer p)).contents) → OnErr result (IsAtBehind (base_front p.newer_base) j r read)
           → IfErr result (λ e. (e ≢ Damaged) × ReadsTo seen)
       stays_newer (Ok value) damaged at = tt
@@ -185,3 +219,23 @@ module _ {D : Type 0} (g : disk.Ghosts D) where
     read_whole j seen open_is state h =
         let same : k.former ≡ seen = one_list (base_front p.base) p.older j k.former seen state (former_kept open_is) h in
         subst (λ (s : Bool). KeepsFormer s j p.base seen) (sym open_is) (h, subst (λ (l : List Named). 1 ≤ length l) same (some_former open_is))
+
+    -- what was read is the front of what is kept
+    pub front_read : (in_newer : Bool) (r : JournalReader) (seen : List Named) → HasRead in_newer p r seen → (left : List Named) × (events ≡ seen ++ left)
+    front_read false r seen h =
+        let rest = more g (base_front p.base) p.older r seen h.1 k.former (bytes_now g (base_front p.base) p.older k.former (former_kept h.0)) in
+        (rest.0 ++ k.current, k.whole ∙ ap (λ (l : List Named). l ++ k.current) rest.1 ∙ append_assoc seen rest.0 k.current)
+    front_read true r seen h =
+        let rest = more g (base_front p.newer_base) p.newer r h.1 h.3 k.current (bytes_now g (base_front p.newer_base) p.newer k.current k.newer) in (
+          rest.0,
+          k.whole ∙ ap (λ (l : List Named). l ++ k.current) (sym (former_is h.0 h.2)) ∙ ap (λ (l : List Named). h.0 ++ l) rest.1
+              ∙ sym (append_assoc h.0 h.1 rest.0) ∙ ap (λ (l : List Named). l ++ rest.0) (sym h.4),
+        )
+
+    -- what the other file kept it keeps, after it was passed on
+    pub former_passed : {E : Type 0} (j : Journal D g) (result : Result ℕ E) (r : JournalReader) (seen : List Named) → p.has_spare ≡ false → g.state (disk_of j) ≡ g.state (older p)
+        → IfOk result (λ count. 1 ≤ count → (more : List Named) × (length more ≡ count) × IsAtBehind (base_front p.base) j r (seen ++ more)) → IfOk result (λ count. count ≡ 0 → KeepsBehind (base_front p.base) j seen)
+        → OnErr result (IsAtBehind (base_front p.base) j r seen) → KeepsFormer p.has_spare j base k.former
+    former_passed j result r seen open_is state passed end again =
+        let kept : KeepsBehind (base_front p.base) j k.former = keeps_passed (base_front p.base) p.older j k.former seen r result state (former_kept open_is) passed end again in
+        subst (λ (s : Bool). KeepsFormer s j base k.former) (sym open_is) (subst (λ (n : ℕ). KeepsBehind (base_front n) j k.former) k.begins kept, some_former open_is)

@@ -103,7 +103,7 @@ module _ {D : Type 0} {g : disk.Ghosts D} where
   abbrev pub LeavesKept : JournalPair D g → Type 0
   LeavesKept p = (base : ℕ) (events : List Named) → Keeps p base events → EachPair p p (HaveJournals base events)
 
--- ---- the calls
+  -- ---- the calls
 
   -- The pair keeps the new events too,
   abbrev pub AddsEvents : {T E : Type 0} → (events : List Named) → (old new : JournalPair D g) → Result T E → Type 0

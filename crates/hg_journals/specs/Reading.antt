@@ -123,3 +123,9 @@ module _ {D : Type 0} {g : disk.Ghosts D} where
 
   abbrev pub StaysBehind : {T : Type 0} → JournalPair D g → JournalPair D g → JournalReader → Result T Refusal → Type 0
   StaysBehind old new after result = Behind old (λ base events former. IfErr result (HasStayed true new after former))
+
+  abbrev pub MoreInNewer : {E : Type 0} → JournalPair D g → JournalReader → JournalPair D g → JournalReader → Result ℕ E → Type 0
+  MoreInNewer old before new after result = Where true old before (λ base events seen. IfOk result (HasMore true new after events seen))
+
+  abbrev pub MoreBehind : {E : Type 0} → JournalPair D g → JournalPair D g → JournalReader → Result ℕ E → Type 0
+  MoreBehind old new after result = Behind old (λ base events former. IfOk result (HasMore true new after events former))

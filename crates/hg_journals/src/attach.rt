@@ -103,10 +103,7 @@ fn join_open<D: Disk>(
 }
 
 // The pair of two files. `Damaged` if they keep nothing together.
-fn join<D: Disk>(
-    first: ReadFile<D>,
-    second: ReadFile<D>,
-) -> Result<JournalPair<D>, (Refusal, D, D)>
+fn join<D: Disk>(first: ReadFile<D>, second: ReadFile<D>) -> Result<JournalPair<D>, (Refusal, D, D)>
     requires first { works_in first ≡ false }
     requires second { works_in second ≡ false }
     ensures keeps { KeepIfRead first second result }

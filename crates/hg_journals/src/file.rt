@@ -45,11 +45,13 @@ impl<D: Disk> ReadFile<D> {
     {
         match self {
             ReadFile::Spare(journal) => journal.into_disk(),
-            ReadFile::Open(OpenFile {
-                journal,
-                base: _,
-                last: _,
-            }) => journal.into_disk(),
+            ReadFile::Open(
+                OpenFile {
+                    journal,
+                    base: _,
+                    last: _,
+                },
+            ) => journal.into_disk(),
         }
     }
 }

@@ -3,8 +3,10 @@ ghost use Rattle.std.specs.Prelude.{◌≡◌, ℕ, List, false};
 ghost use Rattle.hg_model.specs.declared.event.Named.{Named as NamedOf};
 ghost use Rattle.hg_journals.specs.Journals.{HaveJournals, KeepOnce};
 ghost use Rattle.hg_journals.specs.Pairs.{Keeps, LeavesKept, ReadsKept, is_broken};
+ghost use Rattle.hg_journals.specs.Reading.{HasReadFront};
 
 use crate::pair::JournalPair;
+use crate::reader::PairReader;
 use hg_disk::Disk;
 
 /// Two files keep one base and one list of events, or nothing. It does not matter which of them comes first.
@@ -19,4 +21,9 @@ pub fn each_image_keeps_them<D: Disk>(pair: &JournalPair<D>)
     ensures now { ReadsKept pair.now }
     ensures images { LeavesKept pair.now }
     ensures works { (base : ℕ) (events : List NamedOf) → Keeps pair.now base events → is_broken pair.now ≡ false }
+{}
+
+/// The events that a reader has read are the front of those that the pair keeps.
+pub fn more<D: Disk>(pair: &JournalPair<D>, reader: &PairReader)
+    ensures { HasReadFront pair.now reader.now }
 {}

@@ -9,8 +9,8 @@ ghost use Rattle.hg_journal.specs.Reading as journal;
 use hg_disk::Disk;
 use hg_gate::MAX_BASE;
 use hg_journal::journal::{Journal, JournalRoom, MAX_BATCH_EVENTS};
-use hg_model::verdict::Refusal;
 use hg_model::event::Named;
+use hg_model::verdict::Refusal;
 use std::mem::swap;
 
 /// The events of a store, in two journal files. Events are numbered from 1 on. The pair keeps those behind its base, which
@@ -58,6 +58,7 @@ impl<D: Disk> JournalPair<D> {
     ghost use Rattle.hg_gate.specs.Batches.{closed_gate};
     ghost use Rattle.hg_journals.specs.Making.{CountsMaking, IsNewOn, MakesInTurn, first_bytes, first_made, second_made, spare_bytes};
     ghost use Rattle.hg_journals.specs.Pairs.{AddsEvents, GivesUpIfDue, Keeps, KeepsBehindBase, KeepsOnOk, LeavesAllOrBehind, LeavesAllOrNone, LeavesSame, OpensNew, Steps, TurnsIfDue, base_of, first_of, has_spare, is_broken, is_given_up, is_turn_due, is_turned, last_of, newer, newer_base_of, newer_since, older, older_since, second_of};
+    ghost use Rattle.hg_journals.specs.Reading.{KeepsReaders};
 
     /// Makes the pair of a new store on two empty disks, with memory taken before. The first file is open with the base 0
     /// and no events, the second one is spare, both durable. An `Err` hands the disks back: either a call of the first one
@@ -156,6 +157,9 @@ impl<D: Disk> JournalPair<D> {
         ensures added { AddsEvents events.now self.old self.new result }
         ensures last { OnOk result (last_of self.new ≡ last_of self.old + length events.now) }
         ensures any_moment { LeavesAllOrNone events.now self.old self.new }
+
+        // A reader that was begun before reads on, to the new events too.
+        ensures readers { KeepsReaders self.old self.new result }
 
         // Nothing else is changed: neither the other file, nor a base, nor the turn.
         ensures other { self.new.older ≡ self.old.older }

@@ -1,7 +1,7 @@
 //! Reading the events of a pair, one after the other.
-ghost use Rattle.std.specs.Prelude.{◌≡◌, ◌<◌, ◌≤◌, IfOk, IfErr, IsTrue, Err, false};
-ghost use Rattle.hg_journals.specs.Pairs.{StaysKept, is_broken};
-ghost use Rattle.hg_journals.specs.Reading.{BeginsAtFirst, NextBehind, NextInNewer, Reads, ReadsNewer, ReadsNext, StaysBehind, StaysInNewer, StaysOnErr};
+ghost use Rattle.std.specs.Prelude.{◌≡◌, ◌<◌, ◌≤◌, IfOk, IfErr, IsTrue, Err, true, false};
+ghost use Rattle.hg_journals.specs.Pairs.{Keeps, StaysKept, is_broken};
+ghost use Rattle.hg_journals.specs.Reading.{Behind, BeginsAtFirst, KeepsWhereRead, MoreBehind, MoreInNewer, NextBehind, NextInNewer, Reads, ReadsMore, ReadsNewer, ReadsNext, StaysBehind, StaysInNewer, StaysOnErr, Where};
 
 use crate::pair::JournalPair;
 use hg_disk::Disk;
@@ -91,5 +91,60 @@ impl<D: Disk> JournalPair<D> {
             }
             Err(refusal) => Err(refusal),
         }
+    }
+
+    // Passes over events of one batch of the current file.
+    fn pass_in_newer(&mut self, reader: &mut JournalReader, most: u64) -> Result<u64, Refusal>
+        requires works { is_broken self.old ≡ false }
+        requires some { 0 < most }
+        ensures few { IfOk result (λ count. count ≤ most) }
+        ensures passed { MoreInNewer self.old reader.old self.new reader.new result }
+        ensures stays { StaysInNewer self.old reader.old self.new reader.new result }
+        ensures keeps { Where true self.old reader.old (λ base events seen. Keeps self.new base events) }
+        ensures reads { ReadsNewer self.old self.new result }
+    {
+        self.newer.pass(reader, most)
+    }
+
+    // Begins with the current file, behind all events of the other, and passes over events of its first batch.
+    fn pass_behind(&mut self, reader: &mut JournalReader, most: u64) -> Result<u64, Refusal>
+        requires works { is_broken self.old ≡ false }
+        requires some { 0 < most }
+        ensures few { IfOk result (λ count. count ≤ most) }
+        ensures passed { MoreBehind self.old self.new reader.new result }
+        ensures stays { StaysBehind self.old self.new reader.new result }
+        ensures keeps { Behind self.old (λ base events former. Keeps self.new base events) }
+        ensures reads { ReadsNewer self.old self.new result }
+    {
+        *reader = self.newer.events()?;
+        self.pass_in_newer(reader, most)
+    }
+
+    /// Passes over events of one batch, and answers how many: `most` of them, or as many as the batch has left. Behind the
+    /// last event, and only there, it answers 0. It does not decode the events, so it is much faster than `next`. After an
+    /// `Err` it can be tried again. It makes at most one device call of each file, and takes memory only with that.
+    pub fn pass(&mut self, reader: &mut PairReader, most: u64) -> Result<u64, Refusal>
+        requires some { 0 < most }
+        ensures few { IfOk result (λ count. count ≤ most) }
+        ensures passed { ReadsMore self.old reader.old self.new reader.new result }
+        ensures stays { StaysOnErr self.old reader.old self.new reader.new result }
+        ensures keeps { KeepsWhereRead self.old reader.old self.new }
+        ensures reads { Reads self.old self.new result }
+    {
+        if self.is_broken {
+            return Err(Refusal::Broken);
+        }
+        if reader.in_newer {
+            return self.pass_in_newer(&mut reader.reader, most);
+        }
+        let count = match self.older.pass(&mut reader.reader, most) {
+            Ok(count) => count,
+            Err(refusal) => return Err(refusal),
+        };
+        if count > 0 {
+            return Ok(count);
+        }
+        reader.in_newer = true;
+        self.pass_behind(&mut reader.reader, most)
     }
 }
