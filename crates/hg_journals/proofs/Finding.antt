@@ -1,7 +1,6 @@
 -- What is found in a file that is read through, and in two of them.
-use Rattle.std.proofs.Common.{◌≡◌, ◌⊎◌, inl, inr, ◌≤◌, ◌<◌, ◌+◌, ℕ, Bool, false, List, Result, Ok, Err, IfErr, [], ◌∷◌, ◌++◌, length, map, refl, sym, ◌∙◌, ap, subst, arith, length-append, append-nil}
+use Rattle.std.proofs.Common.{◌≡◌, inl, inr, ◌≤◌, ◌<◌, ◌+◌, ℕ, Bool, false, List, Result, Ok, Err, IfErr, ◌++◌, length, map, refl, sym, ◌∙◌, ap, subst, arith, length-append}
 use Rattle.hg_model.specs.declared.event.Named.{Named}
-use Rattle.hg_model.specs.declared.verdict.Refusal.{Refusal}
 use Rattle.hg_disk.specs.declared.disk.Disk as disk
 use Rattle.hg_disk.specs.State.{DiskState}
 use Rattle.hg_disk.proofs.Staying.{then}
@@ -20,8 +19,8 @@ use Rattle.hg_journal.specs.Reading.{disk_of}
 use Rattle.hg_journal.proofs.Filing.{one_file}
 use Rattle.hg_journal.proofs.Journaling.{bytes_now}
 use Rattle.hg_journals.specs.Attaching.{HasFewEvents, HasUpTo, IsNoSuchFile}
-use Rattle.hg_journals.specs.Journals.{AreJournals, HaveJournals, HaveNoJournals}
-use Rattle.hg_journals.specs.Pairs.{Keeps, KeepsFormer, KeepsSome}
+use Rattle.hg_journals.specs.Journals.{AreJournals, HaveNoJournals}
+use Rattle.hg_journals.specs.Pairs.{KeepsFormer, KeepsSome}
 use Rattle.hg_journals.specs.declared.pair.JournalPair.{JournalPair}
 
 -- where a log with this base has no events, or too many

@@ -1,18 +1,16 @@
 -- What a crash leaves of the two files of a pair.
-use Rattle.std.proofs.Common.{◌≡◌, ◌⊎◌, inl, inr, ◌≤◌, ◌+◌, ℕ, Bool, true, false, not, List, [], ◌∷◌, ◌++◌, length, refl, sym, ◌∙◌, ap, subst, arith, length-append, append_assoc, if◌then◌else◌}
+use Rattle.std.proofs.Common.{◌≡◌, ◌≤◌, ◌+◌, ℕ, Bool, true, false, not, List, ◌++◌, length, arith, if◌then◌else◌}
 use Rattle.hg_model.specs.declared.event.Named.{Named}
 use Rattle.hg_disk.specs.declared.disk.Disk as disk
-use Rattle.hg_disk.specs.Moments.{Leaves, LeavesOnly}
+use Rattle.hg_disk.specs.Moments.{LeavesOnly}
 use Rattle.hg_disk.proofs.Moments.{may_leave, started}
 use Rattle.hg_gate.specs.Batches.{base_front}
 use Rattle.hg_gate.specs.declared.based.TheConstants.{MAX_BASE}
-use Rattle.hg_journal.specs.declared.journal.Journal.{Journal}
-use Rattle.hg_journal.specs.File.{IsEitherFile, IsJournalFile, Open, Spare}
-use Rattle.hg_journal.specs.Journal.{IsAllOrNoneBehind, IsJournalBehind}
-use Rattle.hg_journal.specs.Reading.{disk_of}
+use Rattle.hg_journal.specs.File.{IsJournalFile}
+use Rattle.hg_journal.specs.Journal.{IsJournalBehind}
 use Rattle.hg_journal.proofs.Journaling.{bytes_now, each_image_has}
-use Rattle.hg_journals.specs.Journals.{HaveAllOrNone, HaveJournals}
-use Rattle.hg_journals.specs.Pairs.{EachImage, EachPair, Keeps, KeepsFormer, first_of, newer, older, second_of}
+use Rattle.hg_journals.specs.Journals.{HaveJournals}
+use Rattle.hg_journals.specs.Pairs.{EachImage, EachPair, Keeps, first_of, newer, older, second_of}
 use Rattle.hg_journals.specs.declared.pair.JournalPair.{JournalPair}
 use Rattle.hg_journals.proofs.Keeping.{file_of, former_leaves, former_reads, have, is_former, swapped}
 

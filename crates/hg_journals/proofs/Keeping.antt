@@ -1,5 +1,5 @@
 -- What two journal files keep, and what the files of a pair have.
-use Rattle.std.proofs.Common.{◌≡◌, ◌⊎◌, inl, inr, ◌≤◌, ◌<◌, ◌+◌, ℕ, Bool, true, false, List, [], ◌∷◌, ◌++◌, length, refl, sym, ◌∙◌, ap, subst, arith, length-append, append-nil}
+use Rattle.std.proofs.Common.{◌≡◌, inl, inr, ◌≤◌, ◌+◌, ℕ, Bool, true, false, List, [], ◌++◌, length, refl, sym, ◌∙◌, ap, subst, arith, length-append}
 use Rattle.hg_model.specs.declared.event.Named.{Named}
 use Rattle.hg_disk.specs.declared.disk.Disk as disk
 use Rattle.hg_disk.specs.Moments.{Leaves}
@@ -9,7 +9,7 @@ use Rattle.hg_gate.specs.declared.based.TheConstants.{MAX_BASE}
 use Rattle.hg_journal.specs.declared.journal.Journal.{Journal}
 use Rattle.hg_journal.specs.File.{IsJournalFile, JournalFile, Open, Spare}
 use Rattle.hg_journal.specs.Journal.{IsJournalBehind}
-use Rattle.hg_journal.specs.Reading.{KeepsBehind, disk_of}
+use Rattle.hg_journal.specs.Reading.{disk_of}
 use Rattle.hg_journal.proofs.Filing.{one_file}
 use Rattle.hg_journal.proofs.Journaling.{bytes_now, each_image_has}
 use Rattle.hg_journals.specs.Journals.{AreJournals, HaveJournals, KeepOnce}

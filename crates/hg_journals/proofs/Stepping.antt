@@ -1,10 +1,10 @@
 -- What each step leaves of the two files of a pair.
-use Rattle.std.proofs.Common.{◌≡◌, ◌⊎◌, inl, inr, ◌≤◌, ◌<◌, ◌+◌, ◌-◌, ℕ, Bool, true, false, ◌&&◌, not, nat_lt, nat_le, IsTrue, List, [], ◌∷◌, ◌++◌, length, drop, refl, sym, ◌∙◌, ap, subst, arith, length-append, append-nil, append_assoc, if◌then◌else◌}
+use Rattle.std.proofs.Common.{◌≡◌, inl, inr, ◌≤◌, ◌<◌, ◌+◌, ◌-◌, ℕ, Bool, true, false, ◌&&◌, not, nat_lt, nat_le, List, [], ◌++◌, length, drop, refl, sym, ◌∙◌, ap, subst, arith, length-append, append-nil, append_assoc, if◌then◌else◌}
 use Rattle.std.proofs.lemmas.List.{drop_at}
 use Rattle.hg_model.specs.declared.event.Named.{Named}
 use Rattle.hg_disk.specs.declared.disk.Disk as disk
 use Rattle.hg_disk.specs.Moments.{LeavesOnly}
-use Rattle.hg_gate.specs.Batches.{IsClosed, base_front}
+use Rattle.hg_gate.specs.Batches.{base_front}
 use Rattle.hg_gate.specs.declared.based.TheConstants.{MAX_BASE}
 use Rattle.hg_journal.specs.declared.journal.Journal.{Journal}
 use Rattle.hg_journal.specs.File.{IsEitherFile, IsJournalFile, IsSpare, Open, Spare}
@@ -13,7 +13,7 @@ use Rattle.hg_journal.specs.Reading.{KeepsBehind, disk_of}
 use Rattle.hg_journals.specs.Journals.{HaveAllOrBehind, HaveAllOrNone, HaveJournals, behind}
 use Rattle.hg_journals.specs.Pairs.{EachImage, Keeps, KeepsFormer, first_of, newer, older, second_of}
 use Rattle.hg_journals.specs.declared.pair.JournalPair.{JournalPair}
-use Rattle.hg_journals.proofs.Keeping.{IsFormer, file_of, have, is_former, swapped}
+use Rattle.hg_journals.proofs.Keeping.{file_of, have, swapped}
 use Rattle.hg_journals.proofs.Imaging.{either_way, in_order, in_turn, newer_stays, older_stays, small, small_base, stays}
 
 not_true : (b : Bool) → not b ≡ true → b ≡ false

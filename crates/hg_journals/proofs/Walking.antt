@@ -1,8 +1,8 @@
 -- How far a pair was read.
-use Rattle.std.proofs.Common.{◌≡◌, ◌≢◌, ◌⊎◌, inl, inr, ◌≤◌, ◌+◌, ℕ, zero, suc, Bool, true, false, IsTrue, List, [], ◌∷◌, ◌++◌, length, map, Option, Some, None, MatchOption, Result, Ok, Err, IfOk, IfErr, OnErr, IsErrOf, refl, sym, ◌∙◌, ap, subst, arith, length-append, append-nil, append_assoc, if◌then◌else◌}
+use Rattle.std.proofs.Common.{◌≡◌, ◌≢◌, ◌⊎◌, inl, inr, ◌≤◌, ◌+◌, ℕ, zero, suc, Bool, true, false, IsTrue, List, [], ◌∷◌, ◌++◌, length, map, Option, Some, None, MatchOption, Result, Ok, Err, IfOk, IfErr, OnErr, IsErrOf, refl, sym, ◌∙◌, ap, subst, arith, append_assoc, if◌then◌else◌}
 use Rattle.hg_model.specs.declared.event.Named.{Named}
 use Rattle.hg_model.specs.declared.verdict.Refusal.{Refusal}
-use Rattle.hg_model.specs.declared.verdict.Refusal.TheVariants.{Broken, Damaged, DeviceFault, OutOfMemory}
+use Rattle.hg_model.specs.declared.verdict.Refusal.TheVariants.{Broken, Damaged}
 use Rattle.std.proofs.lemmas.Bool.{true≢false}
 use Rattle.hg_disk.specs.declared.disk.Disk as disk
 use Rattle.hg_disk.specs.State.{DiskState, IsImage, settled}
@@ -13,14 +13,13 @@ use Rattle.hg_gate.specs.Reading.{WasRead}
 use Rattle.hg_gate.proofs.Grammar as grammar
 use Rattle.hg_journal.specs.declared.journal.Journal.{Journal}
 use Rattle.hg_journal.specs.declared.journal.JournalReader.{JournalReader}
-use Rattle.hg_journal.specs.File.{IsSpare}
 use Rattle.hg_journal.specs.Journal.{IsJournalBehind, IsNoJournalBehind, IsOfReading, after_refusal, batch_text, failed_after}
 use Rattle.hg_journal.specs.Reading.{IsAtBehind, KeepsBehind, disk_of}
 use Rattle.hg_journal.specs.Reading as journal
 use Rattle.hg_journal.proofs.Journaling.{bytes_now, more}
 use Rattle.hg_journal.proofs.Journals.{one_reading}
-use Rattle.hg_journals.specs.Pairs.{Keeps, KeepsFormer, failures, first_of, is_broken, newer, older, second_of}
-use Rattle.hg_journals.specs.Reading.{HasNext, HasRead, HasStayed, IsSameButFiles, Reads, ReadsNewer}
+use Rattle.hg_journals.specs.Pairs.{Keeps, KeepsFormer, first_of, newer, older, second_of}
+use Rattle.hg_journals.specs.Reading.{HasRead, IsSameButFiles, Reads, ReadsNewer}
 use Rattle.hg_journals.specs.declared.pair.JournalPair.{JournalPair}
 
 after_more : (e : Refusal) (a n : ℕ) → IsOfReading e → a + after_refusal e n ≡ after_refusal e (a + n)
@@ -149,6 +148,19 @@ module _ {D : Type 0} (g : disk.Ghosts D) where
 
   pub in_older : (in_newer : Bool) → in_newer ≡ false → (p : JournalPair D g) (r : JournalReader) (seen : List Named) → p.has_spare ≡ false → IsAtBehind (base_front p.base) p.older r seen → HasRead in_newer p r seen
   in_older in_newer is p r seen open_is at = subst (λ (b : Bool). HasRead b p r seen) (sym is) (open_is, at)
+
+  -- a reader after an append to the current file
+  pub readers_stay : (in_newer : Bool) (p q : JournalPair D g) (r : JournalReader) (seen : List Named) → q.older ≡ p.older → q.has_spare ≡ p.has_spare → q.base ≡ p.base → q.newer_base ≡ p.newer_base
+      → ((read : List Named) → IsAtBehind (base_front p.newer_base) p.newer r read → IsAtBehind (base_front p.newer_base) q.newer r read) → HasRead in_newer p r seen → HasRead in_newer q r seen
+  readers_stay false p q r seen other spare base newer_base stays h =
+      (spare ∙ h.0, subst (λ (n : ℕ). IsAtBehind (base_front n) q.older r seen) (sym base) (subst (λ (j : Journal D g). IsAtBehind (base_front p.base) j r seen) (sym other) h.1))
+  readers_stay true p q r seen other spare base newer_base stays h = (
+    h.0,
+    h.1,
+    subst (λ (s : Bool). KeepsFormer s q.older q.base h.0) (sym spare) (subst (λ (n : ℕ). KeepsFormer p.has_spare q.older n h.0) (sym base) (subst (λ (j : Journal D g). KeepsFormer p.has_spare j p.base h.0) (sym other) h.2)),
+    subst (λ (n : ℕ). IsAtBehind (base_front n) q.newer r h.1) (sym newer_base) (stays h.1 h.3),
+    h.4,
+  )
 
   -- ---- a pair that keeps events
 

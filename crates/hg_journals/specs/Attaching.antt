@@ -4,7 +4,6 @@ use Rattle.hg_model.specs.declared.event.Named.{Named}
 use Rattle.hg_model.specs.declared.verdict.Refusal.{Refusal}
 use Rattle.hg_model.specs.declared.verdict.Refusal.TheVariants.{Damaged}
 use Rattle.hg_disk.specs.Calls.{CallsAtMost}
-use Rattle.hg_disk.specs.State.{IsDurable}
 use Rattle.hg_disk.specs.declared.disk.Disk as disk
 use Rattle.hg_gate.specs.Batches.{base_front}
 use Rattle.hg_gate.specs.declared.based.TheConstants.{MAX_BASE}
@@ -36,6 +35,15 @@ IsNoSuchFile bytes = (file : JournalFile) → IsJournalFile bytes file → HasFe
 -- If it was refused as damaged, the bytes are those of no such file.
 abbrev pub IsNoneIfDamaged : {D : Type 0} → List ℕ → (Refusal × D) → Type 0
 IsNoneIfDamaged bytes refused = refused.0 ≡ Damaged → IsNoSuchFile bytes
+
+module _ {D : Type 0} (g : disk.Ghosts D) where
+  -- So many events are counted by a call more than there are, at most;
+  abbrev pub IsCounted : (old new : D) → (count : ℕ) → Type 0
+  IsCounted old new count = CallsAtMost g (count + 1) old new
+
+  -- and what the file is is found out before, by a call for each byte at most.
+  abbrev pub IsReadThrough : (old new : D) → (count : ℕ) → Type 0
+  IsReadThrough old new count = CallsAtMost g (length (g.state old).contents + (count + 1)) old new
 
 module _ {D : Type 0} {g : disk.Ghosts D} where
   -- The file has these events behind its base, and the last of them has this number.
@@ -98,6 +106,10 @@ module _ {D : Type 0} {g : disk.Ghosts D} where
       IsAsRead first → IsAsRead second
       → IfErr result (λ _. HaveNoJournals (g.state (disk_in first)).contents (g.state (disk_in second)).contents)
 
-  -- so many calls at most read a file of a pair with these bytes through
-  abbrev pub counts_of : List ℕ → JournalPair D g → ℕ
-  counts_of bytes p = length bytes + ((last_of p - base_of p) + 1)
+  -- how many events a pair keeps
+  abbrev pub count_of : JournalPair D g → ℕ
+  count_of p = last_of p - base_of p
+
+  -- The pair has so many as both files.
+  abbrev pub CountsBoth : (first second : ReadFile D g) → Result (JournalPair D g) (Refusal × D × D) → Type 0
+  CountsBoth first second result = IfOk result (λ p. count_of p ≡ count_in first + count_in second)

@@ -1,13 +1,11 @@
 -- A pair made on two empty disks, or of two files.
-use Rattle.std.specs.Prelude.{◌≡◌, ◌⊎◌, ◌+◌, ◌≤◌, ℕ, false, IsTrue, List, [], ◌∷◌, ◌++◌, length, Result, Ok, Err, IfErr, IfOk}
-use Rattle.hg_model.specs.declared.event.Named.{Named}
+use Rattle.std.specs.Prelude.{◌≡◌, ◌⊎◌, ◌+◌, ℕ, List, [], ◌∷◌, ◌++◌, Result, Ok, Err}
 use Rattle.hg_model.specs.declared.verdict.Refusal.{Refusal}
 use Rattle.hg_model.specs.declared.verdict.Refusal.TheVariants.{Damaged}
 use Rattle.hg_disk.specs.State.{IsDurable, counted, settled}
 use Rattle.hg_disk.specs.declared.disk.Disk as disk
 use Rattle.hg_gate.specs.Batches.{base_front, closed_gate}
-use Rattle.hg_gate.specs.declared.based.TheConstants.{MAX_BASE}
-use Rattle.hg_journal.specs.Journal.{IsJournalBehind, after_refusal}
+use Rattle.hg_journal.specs.Journal.{after_refusal}
 use Rattle.hg_journals.specs.Journals.{HaveNoJournals}
 use Rattle.hg_journals.specs.Pairs.{failures, first_of, second_of}
 use Rattle.hg_journals.specs.declared.pair.JournalPair.{JournalPair}

@@ -1,14 +1,12 @@
 -- What a pair of journals keeps, and what a crash may leave of its two files.
-use Rattle.std.specs.Prelude.{◌≡◌, ◌⊎◌, ◌+◌, ◌-◌, ◌<◌, ◌≤◌, ℕ, Bool, true, false, ◌&&◌, not, nat_lt, nat_le, IsTrue, List, [], ◌∷◌, ◌++◌, length, Result, Ok, Err, MatchBool, IfOk, IfErr, OnOk, OnErr, if◌then◌else◌}
+use Rattle.std.specs.Prelude.{◌≡◌, ◌+◌, ◌≤◌, ℕ, Bool, true, false, ◌&&◌, not, nat_lt, nat_le, IsTrue, List, [], ◌∷◌, ◌++◌, length, Result, Err, MatchBool, IfOk, IfErr, OnOk, OnErr, if◌then◌else◌}
 use Rattle.hg_model.specs.declared.event.Named.{Named}
 use Rattle.hg_model.specs.declared.verdict.Refusal.{Refusal}
 use Rattle.hg_model.specs.declared.verdict.Refusal.TheVariants.{Broken}
-use Rattle.hg_disk.specs.Calls.{CallsAtMost}
 use Rattle.hg_disk.specs.Moments.{GoesOn, MayLeave}
 use Rattle.hg_disk.specs.State.{settled}
 use Rattle.hg_disk.specs.declared.disk.Disk as disk
 use Rattle.hg_gate.specs.Batches.{base_front, closed_gate}
-use Rattle.hg_gate.specs.declared.based.TheConstants.{MAX_BASE}
 use Rattle.hg_journal.specs.declared.journal.Journal.{Journal}
 use Rattle.hg_journal.specs.File.{IsSpare}
 use Rattle.hg_journal.specs.Journal.{IsBrokenOrDevice, failed_after}
@@ -142,9 +140,9 @@ module _ {D : Type 0} {g : disk.Ghosts D} where
   abbrev pub is_turn_due : JournalPair D g → Bool
   is_turn_due p = p.has_spare && nat_lt p.newer_base p.last
 
-  -- The other file may be given up: it is open, and so many events reach up to the base of the current one.
-  abbrev pub is_given_up : (count : ℕ) → JournalPair D g → Bool
-  is_given_up count p = not p.has_spare && nat_le p.newer_base count
+  -- The other file may be retired: it is open, and so many events reach up to the base of the current one.
+  abbrev pub is_retirable : (count : ℕ) → JournalPair D g → Bool
+  is_retirable count p = not p.has_spare && nat_le p.newer_base count
 
   -- The pair has turned: the spare file is the current one, with the last event's number as its base and nothing else.
   pub record IsTurned (old new : JournalPair D g) : Type 0 where
@@ -173,8 +171,8 @@ module _ {D : Type 0} {g : disk.Ghosts D} where
   abbrev pub newer_since : (old new : JournalPair D g) → D
   newer_since old new = if is_turned old then first_of new else second_of new
 
-  -- The other file was given up: it is spare, and the first kept event is the first of the current one.
-  pub record IsGivenUp (old new : JournalPair D g) : Type 0 where
+  -- The other file was retired: it is spare, and the first kept event is the first of the current one.
+  pub record IsRetired (old new : JournalPair D g) : Type 0 where
     pub base : base_of new ≡ newer_base_of old
     pub newer_base : newer_base_of new ≡ newer_base_of old
     pub last : last_of new ≡ last_of old
@@ -182,10 +180,10 @@ module _ {D : Type 0} {g : disk.Ghosts D} where
     pub turn : is_turned new ≡ is_turned old
     pub newer : new.newer ≡ old.newer
 
-  -- After an `Ok` it was given up if it may be, or the pair is as it was.
-  abbrev pub GivesUpIfDue : {E : Type 0} → (count : ℕ) → (old new : JournalPair D g) → Result Bool E → Type 0
-  GivesUpIfDue count old new result =
-      IfOk result (λ retired. (retired ≡ is_given_up count old) × MatchBool retired (IsGivenUp old new) (new ≡ old))
+  -- After an `Ok` it was retired if it may be, or the pair is as it was.
+  abbrev pub RetiresIfDue : {E : Type 0} → (count : ℕ) → (old new : JournalPair D g) → Result Bool E → Type 0
+  RetiresIfDue count old new result =
+      IfOk result (λ retired. (retired ≡ is_retirable count old) × MatchBool retired (IsRetired old new) (new ≡ old))
 
   -- What each step promises beside. If a device call fails, the pair is broken; a broken pair is not changed.
   pub record Steps {T : Type 0} (old new : JournalPair D g) (result : Result T Refusal) : Type 0 where

@@ -1,11 +1,10 @@
 //! The pair of two files, whatever their bytes are.
 ghost use Rattle.std.specs.Prelude.{◌≡◌, ◌+◌, ◌-◌, ◌<◌, ◌≤◌, length, IfOk, IfErr, OnOk, IsTrue, false};
-ghost use Rattle.hg_disk.specs.Calls.{CallsAtMost};
 ghost use Rattle.hg_gate.specs.Reading.{WasRead};
 ghost use Rattle.hg_journal.specs.Journal.{IsOfReading};
 ghost use Rattle.hg_journal.specs.File.{IsSpare};
 ghost use Rattle.hg_journal.specs.Reading as journals;
-ghost use Rattle.hg_journals.specs.Attaching.{GoesOnIn, HasUpTo, IsAsRead, KeepIfRead, KeepNothingIfRead, count_in, counts_of, disk_in, most_calls, works_in};
+ghost use Rattle.hg_journals.specs.Attaching.{CountsBoth, GoesOnIn, HasUpTo, IsReadThrough, KeepIfRead, KeepNothingIfRead, count_of, disk_in, most_calls, works_in};
 ghost use Rattle.hg_journals.specs.Making.{AreDurable, CountsAttaching, KeepNothingIfDamaged, first_after, second_after};
 ghost use Rattle.hg_journals.specs.Pairs.{KeepsSome, base_of, first_of, is_broken, is_turned, last_of, newer, older, second_of};
 
@@ -89,7 +88,7 @@ fn join_open<D: Disk>(
     ensures first { first_after result ≡ journals.disk_of first.journal }
     ensures second { second_after result ≡ journals.disk_of second.journal }
     ensures works { IfOk result (λ pair. is_broken pair ≡ false) }
-    ensures counts { IfOk result (λ pair. last_of pair - base_of pair ≡ (first.last - first.base) + (second.last - second.base)) }
+    ensures counts { CountsBoth (ReadFile.Open first) (ReadFile.Open second) result }
 {
     if first.goes_on_in(&second) {
         return Ok(of_open(first, second, false));
@@ -112,7 +111,7 @@ fn join<D: Disk>(first: ReadFile<D>, second: ReadFile<D>) -> Result<JournalPair<
     ensures first { first_after result ≡ disk_in first }
     ensures second { second_after result ≡ disk_in second }
     ensures works { IfOk result (λ pair. is_broken pair ≡ false) }
-    ensures counts { IfOk result (λ pair. last_of pair - base_of pair ≡ count_in first + count_in second) }
+    ensures counts { CountsBoth first second result }
 {
     match first {
         ReadFile::Spare(first) => match second {
@@ -129,10 +128,10 @@ fn join<D: Disk>(first: ReadFile<D>, second: ReadFile<D>) -> Result<JournalPair<
 }
 
 impl<D: Disk> JournalPair<D> {
-    /// The pair of two files, whatever their bytes are. A refusal hands the disks back: `Damaged` if over honest, durable
-    /// disks the two files keep no events behind any base, `DeviceFault` or `OutOfMemory`. It changes neither file, and
-    /// reads both through, so it knows the number of the last event. It makes no more device calls of each disk than the
-    /// file has bytes and the pair has events, and one.
+    /// The pair of two files, whatever their bytes are. A refusal hands the disks back: `Damaged` if over honest,
+    /// durable disks the two files keep no events behind any base, `DeviceFault` or `OutOfMemory`. It changes neither
+    /// file. It reads both through, so that it knows the number of the last event. It makes no more device calls of
+    /// each disk than the file has bytes and the pair has events, and one.
     pub fn attach(
         alloc: Global,
         journal0: D,
@@ -148,8 +147,8 @@ impl<D: Disk> JournalPair<D> {
         ensures first { WasRead ⟦<D as Disk>⟧ (most_calls (D.state journal0).contents) journal0 (first_after result) }
         ensures second { WasRead ⟦<D as Disk>⟧ (most_calls (D.state journal1).contents) journal1 (second_after result) }
 
-        ensures first_calls { IfOk result (λ pair. CallsAtMost ⟦<D as Disk>⟧ (counts_of (D.state journal0).contents pair) journal0 (first_of pair)) }
-        ensures second_calls { IfOk result (λ pair. CallsAtMost ⟦<D as Disk>⟧ (counts_of (D.state journal1).contents pair) journal1 (second_of pair)) }
+        ensures first_calls { IfOk result (λ p. IsReadThrough ⟦<D as Disk>⟧ journal0 (first_of p) (count_of p)) }
+        ensures second_calls { IfOk result (λ p. IsReadThrough ⟦<D as Disk>⟧ journal1 (second_of p) (count_of p)) }
         ensures device { CountsAttaching ⟦<D as Disk>⟧ journal0 journal1 result }
     {
         let first = match read_file(alloc, journal0) {

@@ -1,12 +1,11 @@
 //! A journal file read through: how many events it has.
 ghost use Rattle.std.specs.Prelude.{◌≡◌, ◌+◌, ◌-◌, ◌≤◌, length, IfOk, IfErr, IsTrue, false};
 ghost use Rattle.hg_disk.specs.State.{IsDurable};
-ghost use Rattle.hg_disk.specs.Calls.{CallsAtMost};
 ghost use Rattle.hg_gate.specs.Reading.{WasRead};
 ghost use Rattle.hg_gate.specs.declared.based.TheConstants.{MAX_BASE as MAX_BASE_OF};
 ghost use Rattle.hg_journal.specs.Journal.{IsOfReading, failed_after};
 ghost use Rattle.hg_journal.specs.Reading.{disk_of, is_broken};
-ghost use Rattle.hg_journals.specs.Attaching.{FindsLast, FindsNone, HasUpTo, IsAsRead, IsNoneIfDamaged, OpensSome, count_in, disk_in, failures_of_reading, file_after, most_calls, works_in};
+ghost use Rattle.hg_journals.specs.Attaching.{FindsLast, FindsNone, IsAsRead, IsCounted, IsNoneIfDamaged, IsReadThrough, OpensSome, count_in, disk_in, failures_of_reading, file_after, most_calls, works_in};
 
 use crate::file::{OpenFile, ReadFile};
 use hg_disk::Disk;
@@ -23,7 +22,7 @@ fn find_last<D: Disk>(journal: &mut Journal<D>, base: u64) -> Result<u64, Refusa
     ensures found { FindsLast base journal.old journal.new result }
     ensures damaged { FindsNone base journal.old result }
     ensures fits { IfOk result (λ last. (base ≤ last) × (last ≤ MAX_BASE_OF)) }
-    ensures few { IfOk result (λ last. CallsAtMost ⟦<D as Disk>⟧ (last - base + 1) (disk_of journal.old) (disk_of journal.new)) }
+    ensures few { IfOk result (λ n. IsCounted ⟦<D as Disk>⟧ (disk_of journal.old) (disk_of journal.new) (n - base)) }
     ensures works { is_broken journal.new ≡ false }
     ensures fault { IfErr result IsOfReading }
     ensures disk { WasRead ⟦<D as Disk>⟧ (MAX_BASE_OF + 2) (disk_of journal.old) (disk_of journal.new) }
@@ -48,7 +47,7 @@ fn read_open<D: Disk>(base: u64, journal: Journal<D>) -> Result<ReadFile<D>, (Re
     ensures damaged { IsTrue D.is_honest → OpensSome journal base → base ≤ MAX_BASE_OF →
         IfErr result (IsNoneIfDamaged (D.state (disk_of journal)).contents) }
     ensures works { IfOk result (λ file. works_in file ≡ false) }
-    ensures few { IfOk result (λ file. CallsAtMost ⟦<D as Disk>⟧ (count_in file + 1) (disk_of journal) (disk_in file)) }
+    ensures few { IfOk result (λ file. IsCounted ⟦<D as Disk>⟧ (disk_of journal) (disk_in file) (count_in file)) }
     ensures fault { IfErr result (λ e. IsOfReading e.0) }
     ensures disk { WasRead ⟦<D as Disk>⟧ (MAX_BASE_OF + 2) (disk_of journal) (file_after result) }
     ensures device { D.failures (file_after result) ≡ failures_of_reading result (D.failures (disk_of journal)) }
@@ -71,7 +70,7 @@ pub(crate) fn read_file<D: Disk>(alloc: Global, disk: D) -> Result<ReadFile<D>, 
     ensures damaged { IsTrue D.is_honest → IsDurable (D.state disk) →
         IfErr result (IsNoneIfDamaged (D.state disk).contents) }
     ensures works { IfOk result (λ file. works_in file ≡ false) }
-    ensures few { IfOk result (λ file. CallsAtMost ⟦<D as Disk>⟧ (length (D.state disk).contents + (count_in file + 1)) disk (disk_in file)) }
+    ensures few { IfOk result (λ file. IsReadThrough ⟦<D as Disk>⟧ disk (disk_in file) (count_in file)) }
     ensures fault { IfErr result (λ e. IsOfReading e.0) }
     ensures disk { WasRead ⟦<D as Disk>⟧ (most_calls (D.state disk).contents) disk (file_after result) }
     ensures device { D.failures (file_after result) ≡ failures_of_reading result (D.failures disk) }

@@ -13,8 +13,8 @@ use hg_model::event::Named;
 use hg_model::verdict::Refusal;
 use std::mem::swap;
 
-/// The events of a store, in two journal files. Events are numbered from 1 on. The pair keeps those behind its base, which
-/// is the number of events that came before them; those have been given up.
+/// The events of a store, in two journal files. Events are numbered from 1 on. The pair keeps those behind its base,
+/// the number of events that came before them: these have been given up.
 pub struct JournalPair<D: Disk> {
     pub(crate) older: Journal<D>,
     pub(crate) newer: Journal<D>,
@@ -57,13 +57,13 @@ impl<D: Disk + Drop> Drop for JournalPair<D> {
 impl<D: Disk> JournalPair<D> {
     ghost use Rattle.hg_gate.specs.Batches.{closed_gate};
     ghost use Rattle.hg_journals.specs.Making.{CountsMaking, IsNewOn, MakesInTurn, first_bytes, first_made, second_made, spare_bytes};
-    ghost use Rattle.hg_journals.specs.Pairs.{AddsEvents, GivesUpIfDue, Keeps, KeepsBehindBase, KeepsOnOk, LeavesAllOrBehind, LeavesAllOrNone, LeavesSame, OpensNew, Steps, TurnsIfDue, base_of, first_of, has_spare, is_broken, is_given_up, is_turn_due, is_turned, last_of, newer, newer_base_of, newer_since, older, older_since, second_of};
+    ghost use Rattle.hg_journals.specs.Pairs.{AddsEvents, RetiresIfDue, Keeps, KeepsBehindBase, KeepsOnOk, LeavesAllOrBehind, LeavesAllOrNone, LeavesSame, OpensNew, Steps, TurnsIfDue, base_of, first_of, has_spare, is_broken, is_retirable, is_turn_due, is_turned, last_of, newer, newer_base_of, newer_since, older, older_since, second_of};
     ghost use Rattle.hg_journals.specs.Reading.{KeepsReaders};
 
-    /// Makes the pair of a new store on two empty disks, with memory taken before. The first file is open with the base 0
-    /// and no events, the second one is spare, both durable. An `Err` hands the disks back: either a call of the first one
-    /// failed and the second was not called, or the first is made and a call of the second failed. It makes at most two
-    /// device calls of each disk.
+    /// Makes the pair of a new store on two empty disks, with memory taken before. The first file is open with the
+    /// base 0 and no events, the second one is spare, both durable. An `Err` hands the disks back: either a call of
+    /// the first one failed and the second was not called, or the first is made and a call of the second failed. It
+    /// makes at most two device calls of each disk.
     pub fn create(
         room0: JournalRoom,
         room1: JournalRoom,
@@ -133,8 +133,8 @@ impl<D: Disk> JournalPair<D> {
         self.base + 1
     }
 
-    /// The number of the last event; 0 if there was none yet.
-    pub fn last(&self) -> u64
+    /// The number of the last event, or 0 if there was none yet.
+    pub fn last_kept(&self) -> u64
         ensures { result ≡ last_of self.now }
     {
         self.last
@@ -147,9 +147,9 @@ impl<D: Disk> JournalPair<D> {
         self.is_broken
     }
 
-    /// Adds 1 to 1,024 events, all at once, to the current file. After an `Ok` they are durable. After an `Err` the pair is
-    /// broken, and a crash leaves the events from before, with all the new ones or none. It makes four device calls of the
-    /// current file at most, and none of the other; it takes no memory.
+    /// Adds 1 to 1,024 events, all at once, to the current file. After an `Ok` they are durable. After an `Err` the
+    /// pair is broken, and a crash leaves the events from before, with all the new ones or none. It makes four device
+    /// calls of the current file at most, and none of the other; it takes no memory.
     pub fn append(&mut self, events: &[Named]) -> Result<(), Refusal>
         requires some { 1 ≤ length events.now }
         requires few { length events.now ≤ MAX_BATCH_EVENTS }
@@ -188,10 +188,10 @@ impl<D: Disk> JournalPair<D> {
         self.has_spare && self.newer_base < self.last
     }
 
-    /// If there is a spare file and the current one has an event, opens the spare file with the last event's number as its
-    /// base, and answers true. It is the current file from then on. Else does nothing, and answers false. A crash at any
-    /// moment leaves the same events behind the same base. After an `Err` the pair is broken. It makes five device calls of
-    /// the spare file at most, and none of the other; it takes no memory.
+    /// If there is a spare file and the current one has an event, opens the spare file with the last event's number as
+    /// its base, and answers true: it is the current file from then on. Else does nothing, and answers false. A crash
+    /// at any moment leaves the same events behind the same base. After an `Err` the pair is broken. It makes five
+    /// device calls of the spare file at most, and none of the other; it takes no memory.
     pub fn turn(&mut self) -> Result<bool, Refusal>
         ensures turned { TurnsIfDue self.old self.new result }
         ensures keeps { KeepsOnOk self.old self.new result }
@@ -217,19 +217,20 @@ impl<D: Disk> JournalPair<D> {
         Ok(true)
     }
 
-    // Whether the other file may be given up.
-    fn is_given_up(&self, count: u64) -> bool
-        ensures { result ≡ is_given_up count self.now }
+    // Whether the other file may be retired.
+    fn is_retirable(&self, count: u64) -> bool
+        ensures { result ≡ is_retirable count self.now }
     {
         !self.has_spare && self.newer_base <= count
     }
 
-    /// If both files are open, and `count` events (those of the newest root) reach up to the base of the current file or
-    /// beyond, closes the other file, and answers true: its events are no longer kept. Else does nothing, and answers false.
-    /// A crash at any moment leaves all events, or those of the current file. After an `Err` the pair is broken. It makes
-    /// two device calls of the other file at most, and none of the current one; it takes no memory.
+    /// If both files are open, and `count` events (those of the newest root) reach up to the base of the current file
+    /// or beyond, closes the other file, and answers true: its events are no longer kept. Else does nothing, and
+    /// answers false. A crash at any moment leaves all events, or those of the current file. After an `Err` the pair
+    /// is broken. It makes two device calls of the other file at most, and none of the current one; it takes no
+    /// memory.
     pub fn retire(&mut self, count: u64) -> Result<bool, Refusal>
-        ensures retired { GivesUpIfDue count self.old self.new result }
+        ensures retired { RetiresIfDue count self.old self.new result }
         ensures keeps { KeepsBehindBase self.old self.new result }
         ensures any_moment { LeavesAllOrBehind count self.old self.new }
         ensures other { self.new.newer ≡ self.old.newer }
@@ -240,7 +241,7 @@ impl<D: Disk> JournalPair<D> {
         if self.is_broken {
             return Err(Refusal::Broken);
         }
-        if !self.is_given_up(count) {
+        if !self.is_retirable(count) {
             return Ok(false);
         }
         self.is_broken = true;

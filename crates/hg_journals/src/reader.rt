@@ -18,8 +18,8 @@ pub struct PairReader {
 }
 
 impl<D: Disk> JournalPair<D> {
-    /// The events that are kept, from the first on, for `next`. It takes no memory. A reader stays good when events are
-    /// appended. It is of no more use after a `turn` or a `retire` that answered true.
+    /// The events that are kept, from the first on, for `next`. It takes no memory. A reader stays good when events
+    /// are appended. It is of no more use after a `turn` or a `retire` that answered true.
     pub fn events(&self) -> Result<PairReader, Refusal>
         ensures first { BeginsAtFirst self.now result }
         ensures fault { IfErr result (λ e. (e ≡ Refusal.Broken) × IsTrue (is_broken self.now)) }
@@ -68,8 +68,8 @@ impl<D: Disk> JournalPair<D> {
         self.next_in_newer(reader)
     }
 
-    /// Reads the next event, or none behind the last. After an `Err` it can be tried again. It makes at most one device
-    /// call of each file, and takes memory only with that.
+    /// Reads the next event, or none behind the last. After an `Err` it can be tried again. It makes at most one
+    /// device call of each file, and takes memory only with that.
     #[inline(always)]
     pub fn next(&mut self, reader: &mut PairReader) -> Result<Option<Named>, Refusal>
         ensures next { ReadsNext self.old reader.old self.new reader.new result }
@@ -120,9 +120,10 @@ impl<D: Disk> JournalPair<D> {
         self.pass_in_newer(reader, most)
     }
 
-    /// Passes over events of one batch, and answers how many: `most` of them, or as many as the batch has left. Behind the
-    /// last event, and only there, it answers 0. It does not decode the events, so it is much faster than `next`. After an
-    /// `Err` it can be tried again. It makes at most one device call of each file, and takes memory only with that.
+    /// Passes over events of one batch, and answers how many: `most` of them, or as many as the batch has left. Behind
+    /// the last event, and only there, it answers 0. It does not decode the events, so it is much faster than `next`.
+    /// After an `Err` it can be tried again. It makes at most one device call of each file, and takes memory only with
+    /// that.
     pub fn pass(&mut self, reader: &mut PairReader, most: u64) -> Result<u64, Refusal>
         requires some { 0 < most }
         ensures few { IfOk result (λ count. count ≤ most) }

@@ -1,6 +1,4 @@
-use Rattle.std.proofs.Common.{◌≡◌, ◌+◌, length, refl, sym, ◌∙◌, subst, ℕ}
-use Rattle.hg_gate.specs.Batches.{base_front}
-use Rattle.hg_journal.specs.Reading.{KeepsBehind}
+use Rattle.std.proofs.Common.{refl, subst, ℕ}
 use Rattle.hg_journals.specs.Attaching.{HasUpTo}
 use Rattle.hg_journals.proofs.Finding.{keeps_both}
 use Rattle.hg_journals.proofs.attach.of_open.Goals as goal

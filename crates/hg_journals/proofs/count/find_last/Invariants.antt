@@ -1,4 +1,4 @@
-use Rattle.std.proofs.Common.{◌≡◌, ◌≤◌, ◌+◌, ◌-◌, List, [], length, false, IsTrue}
+use Rattle.std.proofs.Common.{◌≡◌, ◌≤◌, ◌+◌, ◌-◌, List, length, false, IsTrue}
 use Rattle.hg_model.specs.declared.event.Named.{Named}
 use Rattle.hg_disk.specs.Calls.{CallsAtMost}
 use Rattle.hg_disk.specs.State.{IsImage}

@@ -2,6 +2,7 @@ use Rattle.std.proofs.Common.{◌++◌, refl}
 use Rattle.hg_gate.specs.Batches.{base_front}
 use Rattle.hg_journal.specs.Reading.{disk_of}
 use Rattle.hg_journals.proofs.Stepping.{appending, ends_with, whole_with}
+use Rattle.hg_journals.proofs.Walking.{readers_stay}
 use Rattle.hg_journals.proofs.pair.JournalPair.append.Goals as goal
 
 pub returns-in_err-append-clause-any_moment : goal.returns-in_err-append-clause-any_moment
@@ -28,3 +29,8 @@ returns-clause-added g c base past k =
       turned_at = k.turned_at;
       ends = ends_with g.D.Disk p base past k c.args.events.now c.requires.fits;
     }
+
+pub returns-clause-readers : goal.returns-clause-readers
+returns-clause-readers g c reader seen h =
+    let p = c.args.self.now in
+    readers_stay g.D.Disk reader.in_newer p _ reader.reader seen refl refl refl refl (λ read at. c.in_ok-append.ensures.readers_behind (base_front p.newer_base) reader.reader read at) h

@@ -1,4 +1,4 @@
-use Rattle.std.proofs.Common.{◌≡◌, ◌++◌, ◌∷◌, [], Bool, true, Err, List, Option, MatchOption, IfOk, IfErr, ap, subst, sym}
+use Rattle.std.proofs.Common.{◌++◌, ◌∷◌, [], Bool, Err, Option, MatchOption, IfOk, IfErr, ap, subst, sym}
 use Rattle.hg_model.specs.declared.event.Named.{Named}
 use Rattle.hg_gate.specs.Batches.{base_front}
 use Rattle.hg_journal.specs.Reading.{IsAtBehind, KeepsBehind}

@@ -1,4 +1,4 @@
-use Rattle.std.proofs.Common.{◌≡◌, ◌≤◌, ◌++◌, Bool, true, false, inr, Err, IfOk, IfErr, ap, subst, sym, arith}
+use Rattle.std.proofs.Common.{◌≡◌, ◌≤◌, ◌++◌, Bool, inr, Err, IfOk, IfErr, ap, subst, sym, arith}
 use Rattle.hg_gate.specs.Batches.{base_front}
 use Rattle.hg_journals.specs.Pairs.{Keeps}
 use Rattle.hg_journals.specs.Reading.{HasMore, HasStayed, Where}

@@ -1,7 +1,6 @@
-use Rattle.std.proofs.Common.{[], refl, sym, ◌∙◌, ap, subst, arith, append-nil, false}
+use Rattle.std.proofs.Common.{[], refl, sym, ◌∙◌, subst, append-nil}
 use Rattle.hg_gate.specs.Batches.{base_front}
 use Rattle.hg_journal.specs.Reading.{KeepsBehind, disk_of}
-use Rattle.hg_journals.specs.Pairs.{KeepsFormer}
 use Rattle.hg_journals.proofs.Imaging.{stays}
 use Rattle.hg_journals.proofs.Stepping.{keeps_all, opening, some, spare, turned}
 use Rattle.hg_journals.proofs.pair.JournalPair.turn.Goals as goal
