@@ -1,5 +1,5 @@
 //! The pair of two files, whatever their bytes are.
-ghost use Rattle.std.specs.Prelude.{◌≡◌, ◌+◌, ◌-◌, ◌<◌, ◌≤◌, length, IfOk, IfErr, OnOk, IsTrue, false};
+ghost use Rattle.std.specs.Prelude.{◌≡◌, ◌+◌, ◌-◌, ◌<◌, IfOk, IfErr, IsTrue, false};
 ghost use Rattle.hg_gate.specs.Reading.{WasRead};
 ghost use Rattle.hg_journal.specs.Journal.{IsOfReading};
 ghost use Rattle.hg_journal.specs.File.{IsSpare};

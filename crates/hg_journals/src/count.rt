@@ -1,5 +1,5 @@
 //! A journal file read through: how many events it has.
-ghost use Rattle.std.specs.Prelude.{◌≡◌, ◌+◌, ◌-◌, ◌≤◌, length, IfOk, IfErr, IsTrue, false};
+ghost use Rattle.std.specs.Prelude.{◌≡◌, ◌+◌, ◌-◌, ◌≤◌, IfOk, IfErr, IsTrue, false};
 ghost use Rattle.hg_disk.specs.State.{IsDurable};
 ghost use Rattle.hg_gate.specs.Reading.{WasRead};
 ghost use Rattle.hg_gate.specs.declared.based.TheConstants.{MAX_BASE as MAX_BASE_OF};

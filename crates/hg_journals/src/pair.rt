@@ -1,6 +1,6 @@
 //! Two journal files that take turns: events are appended to the current one, and the other is spare, or has the events
 //! before them.
-ghost use Rattle.std.specs.Prelude.{◌≡◌, ◌+◌, ◌≤◌, ◌∷◌, [], length, Err, IfOk, IfErr, OnOk, OnErr, IsTrue, true, false};
+ghost use Rattle.std.specs.Prelude.{◌≡◌, ◌+◌, ◌≤◌, [], length, Err, IfOk, IfErr, OnOk, true, false};
 ghost use Rattle.hg_disk.specs.Calls.{CallsAtMost};
 ghost use Rattle.hg_disk.specs.Moments.{LeavesTorn};
 ghost use Rattle.hg_gate.specs.declared.based.TheConstants.{MAX_BASE as MAX_BASE_OF};
@@ -55,7 +55,6 @@ impl<D: Disk + Drop> Drop for JournalPair<D> {
 }
 
 impl<D: Disk> JournalPair<D> {
-    ghost use Rattle.hg_gate.specs.Batches.{closed_gate};
     ghost use Rattle.hg_journals.specs.Making.{CountsMaking, IsNewOn, MakesInTurn, first_bytes, first_made, second_made, spare_bytes};
     ghost use Rattle.hg_journals.specs.Pairs.{AddsEvents, RetiresIfDue, Keeps, KeepsBehindBase, KeepsOnOk, LeavesAllOrBehind, LeavesAllOrNone, LeavesSame, OpensNew, Steps, TurnsIfDue, base_of, first_of, has_spare, is_broken, is_retirable, is_turn_due, is_turned, last_of, newer, newer_base_of, newer_since, older, older_since, second_of};
     ghost use Rattle.hg_journals.specs.Reading.{KeepsReaders};
