@@ -1,0 +1,5 @@
+pub mod Finding
+pub mod Keeping
+pub mod Imaging
+pub mod Stepping
+pub mod Walking

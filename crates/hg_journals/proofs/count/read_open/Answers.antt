@@ -1,0 +1,9 @@
+use Rattle.std.proofs.Common.{Err, ap, ◌∙◌}
+use Rattle.hg_journal.specs.Reading.{disk_of}
+use Rattle.hg_journals.proofs.Finding.{none_found}
+use Rattle.hg_journals.proofs.count.read_open.Goals as goal
+
+pub returns-in-Err-clause-damaged : goal.returns-in-Err-clause-damaged
+returns-in-Err-clause-damaged g c honest opens fits told =
+    none_found c.args.base (g.D.Disk.state (disk_of c.args.journal)).contents opens.0 fits opens.1.reads.has
+    (c.find_last.ensures.damaged honest opens (c.in-Err.is ∙ ap (λ r. Err r) told))

@@ -1,0 +1,22 @@
+use Rattle.std.proofs.Common.{[], sym, append-nil, map}
+use Rattle.hg_gate.specs.Batches.{base_front}
+use Rattle.hg_journal.specs.Journal.{batch_text}
+use Rattle.hg_journals.proofs.pair.JournalPair.pass_behind.Goals as goal
+
+pub returns-clause-passed : goal.returns-clause-passed
+returns-clause-passed g c base events former honest k h =
+    let p = c.args.self.now in
+    let first = c.in_ok-reader.ensures.first_behind (base_front p.newer_base) (map batch_text k.newer.batches) k.newer.has in
+    c.pass_in_newer.ensures.passed base events former honest k (former, [], h, first, sym (append-nil former))
+
+pub returns-clause-stays : goal.returns-clause-stays
+returns-clause-stays g c base events former honest k h =
+    let p = c.args.self.now in
+    let first = c.in_ok-reader.ensures.first_behind (base_front p.newer_base) (map batch_text k.newer.batches) k.newer.has in
+    c.pass_in_newer.ensures.stays base events former honest k (former, [], h, first, sym (append-nil former))
+
+pub returns-clause-keeps : goal.returns-clause-keeps
+returns-clause-keeps g c base events former honest k h =
+    let p = c.args.self.now in
+    let first = c.in_ok-reader.ensures.first_behind (base_front p.newer_base) (map batch_text k.newer.batches) k.newer.has in
+    c.pass_in_newer.ensures.keeps base events former honest k (former, [], h, first, sym (append-nil former))

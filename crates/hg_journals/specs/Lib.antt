@@ -1,0 +1,5 @@
+pub mod Attaching
+pub mod Journals
+pub mod Making
+pub mod Pairs
+pub mod Reading
