@@ -1,0 +1,4 @@
+pub mod Rules
+pub mod Lives
+pub mod Sets
+pub mod Reports

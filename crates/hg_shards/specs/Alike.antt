@@ -1,0 +1,50 @@
+-- Traces that do the same to the words of a set, whatever they do to other words.
+use Rattle.std.specs.Prelude.{◌≡◌, ◌⊎◌, ℕ, ◌/◌, Bool, true, false, List, [], ◌∷◌, filter, if◌then◌else◌}
+use Rattle.hg_model.specs.declared.event.Event.{Event}
+use Rattle.hg_model.specs.declared.event.Event.TheVariants.{Read, Write, Alloc, Free}
+use Rattle.hg_model.specs.declared.report.Report.{Report}
+use Rattle.hg_model.specs.History.{overlaps}
+
+-- What an event does to a word: nothing, a read or a write by a thread, or the word is new from then on.
+pub data Touch : Type 0 where
+  Untouched : Touch
+  ReadBy : (t : ℕ) → Touch
+  WrittenBy : (t : ℕ) → Touch
+  Renewed : Touch
+
+-- what an event does to the word w
+abbrev pub touch : ℕ → Event → Touch
+touch w (Read a) = if overlaps a.at a.len w then ReadBy a.t else Untouched
+touch w (Write a) = if overlaps a.at a.len w then WrittenBy a.t else Untouched
+touch w (Alloc b) = if overlaps b.at b.len w then Renewed else Untouched
+touch w (Free b) = if overlaps b.at b.len w then Renewed else Untouched
+touch w _ = Untouched
+
+-- an access, or a block that is allocated or freed
+abbrev pub is_of_memory : Event → Bool
+is_of_memory (Read a) = true
+is_of_memory (Write a) = true
+is_of_memory (Alloc b) = true
+is_of_memory (Free b) = true
+is_of_memory _ = false
+
+-- Both events are of memory, and they do the same to each word of the set.
+pub record DoTheSame (within : ℕ → Bool) (e f : Event) : Type 0 where
+  pub first : is_of_memory e ≡ true
+  pub second : is_of_memory f ≡ true
+  pub touches : (w : ℕ) → within w ≡ true → touch w e ≡ touch w f
+
+-- The words of the set cannot tell the events apart: they are one, or both are of memory and do the same to these words.
+abbrev pub AreAlike : (ℕ → Bool) → Event → Event → Type 0
+AreAlike within e f = (e ≡ f) ⊎ DoTheSame within e f
+
+-- The traces are as long as each other, and the words of the set cannot tell apart the events at any place.
+abbrev pub AgreeWithin : (ℕ → Bool) → List Event → List Event → Type 0
+AgreeWithin within [] [] = Unit {0}
+AgreeWithin within [] (f ∷ fs) = ⊥
+AgreeWithin within (e ∷ es) [] = ⊥
+AgreeWithin within (e ∷ es) (f ∷ fs) = AreAlike within e f × AgreeWithin within es fs
+
+-- the reports of words of the set
+abbrev pub reports_within : (ℕ → Bool) → List Report → List Report
+reports_within within reports = filter (λ r. within (r.word / 4)) reports

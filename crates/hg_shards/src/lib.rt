@@ -1,0 +1,4 @@
+//! The laws by which a trace is judged in parts, each of them the words of some pages, and the reports of the parts are merged.
+#![tactic(auto)]
+
+pub mod laws;
