@@ -24,22 +24,22 @@ accessed (Read a) = words_of a.at a.len
 accessed (Write a) = words_of a.at a.len
 accessed _ = []
 
-abbrev is_access : Touch → Bool
+abbrev pub is_access : Touch → Bool
 is_access (ReadBy t) = true
 is_access (WrittenBy t) = true
 is_access _ = false
 
-abbrev writes : Touch → Bool
+abbrev pub writes : Touch → Bool
 writes (WrittenBy t) = true
 writes _ = false
 
-abbrev thread_by : Touch → ℕ
+abbrev pub thread_by : Touch → ℕ
 thread_by (ReadBy t) = t
 thread_by (WrittenBy t) = t
 thread_by _ = 0
 
 -- the report of a word to which this was done
-abbrev report_by : List Event → Touch → ℕ → Report
+abbrev pub report_by : List Event → Touch → ℕ → Report
 report_by trace x w = report trace (thread_by x) (writes x) w
 
 pub words_rise : (at len : ℕ) → From 0 (words_of at len)
@@ -81,54 +81,62 @@ at_an_access trace at len t write x thread kind =
     (filter (is_reported trace) (words_of at len))
     (each_filter (λ w. overlaps at len w ≡ true) (is_reported trace) (words_of at len) (each_member (λ w. overlaps at len w ≡ true) (words_of at len) (λ w h. sym ((words_lem at len).1 w) ∙ h)))
 
-reports_by : (e : Event) (past : List Event) → reports_at_last (e ∷ past) ≡ map (λ w. report_by (e ∷ past) (touch w e) w) (filter (is_reported (e ∷ past)) (accessed e))
+pub reports_by : (e : Event) (past : List Event) → reports_at_last (e ∷ past) ≡ map (λ w. report_by (e ∷ past) (touch w e) w) (filter (is_reported (e ∷ past)) (accessed e))
 reports_by (Read a) past = at_an_access (Read a ∷ past) a.at a.len a.t false (ReadBy a.t) refl refl
 reports_by (Write a) past = at_an_access (Write a ∷ past) a.at a.len a.t true (WrittenBy a.t) refl refl
 reports_by e past = refl
 
 module _ (within : ℕ → Bool) where
-  -- the words of the set that are reported at the last event
-  abbrev told : Event → List Event → List ℕ
-  told e past = filter (λ w. within ((4 * w) / 4)) (filter (is_reported (e ∷ past)) (accessed e))
+  -- the accessed words of the set that pass a test
+  abbrev pub told : (ℕ → Bool) → Event → List ℕ
+  told test e = filter (λ w. within ((4 * w) / 4)) (filter test (accessed e))
 
-  told_rise : (e : Event) (past : List Event) → From 0 (told e past)
-  told_rise e past = from_filter (λ w. within ((4 * w) / 4)) 0 _ (from_filter (is_reported (e ∷ past)) 0 (accessed e) (accessed_rise e))
+  told_rise : (test : ℕ → Bool) (e : Event) → From 0 (told test e)
+  told_rise test e = from_filter (λ w. within ((4 * w) / 4)) 0 _ (from_filter test 0 (accessed e) (accessed_rise e))
 
   by_word : (w : ℕ) → within ((4 * w) / 4) ≡ within w
   by_word w = let e : (4 * w) / 4 ≡ w = omega arith in ap within e
 
-  in_told : (e : Event) (past : List Event) (w : ℕ) → contains (told e past) w ≡ (within w && (is_reported (e ∷ past) w && is_access (touch w e)))
-  in_told e past w =
-      contains_filter (λ v. within ((4 * v) / 4)) (filter (is_reported (e ∷ past)) (accessed e)) w
-      ∙ (λ i. by_word w i && (contains_filter (is_reported (e ∷ past)) (accessed e) w i))
-      ∙ ap (λ b. within w && (is_reported (e ∷ past) w && b)) (accessed_words e w)
+  pub in_told : (test : ℕ → Bool) (e : Event) (w : ℕ) → contains (told test e) w ≡ (within w && (test w && is_access (touch w e)))
+  in_told test e w =
+      contains_filter (λ v. within ((4 * v) / 4)) (filter test (accessed e)) w
+      ∙ (λ i. by_word w i && (contains_filter test (accessed e) w i))
+      ∙ ap (λ b. within w && (test w && b)) (accessed_words e w)
 
-  same_told : (e f : Event) (es fs : List Event) → AgreeWithin within (e ∷ es) (f ∷ fs) → told e es ≡ told f fs
-  same_told e f es fs h =
-      rising_same 0 (told e es) (told f fs) (told_rise e es) (told_rise f fs)
-      (λ w. in_told e es w ∙ by (within w) (λ inside i. same_reported within w inside (e ∷ es) (f ∷ fs) h i && is_access (same_touch within e f h.0 w inside i)) ∙ sym (in_told f fs w))
+  -- alike events have the same words, where the tests agree
+  pub same_told : (p q : ℕ → Bool) (e f : Event) → AreAlike within e f → ((w : ℕ) → within w ≡ true → p w ≡ q w) → told p e ≡ told q f
+  same_told p q e f alike same =
+      rising_same 0 (told p e) (told q f) (told_rise p e) (told_rise q f)
+      (λ w. in_told p e w ∙ by (within w) (λ inside i. same w inside i && is_access (same_touch within e f alike w inside i)) ∙ sym (in_told q f w))
     where
       by : {x y : Bool} (b : Bool) → (b ≡ true → x ≡ y) → (b && x) ≡ (b && y)
       by true same = same refl
       by false same = refl
 
-  same_report : (e f : Event) (es fs : List Event) → AgreeWithin within (e ∷ es) (f ∷ fs) → (w : ℕ) → within ((4 * w) / 4) ≡ true →
+  passing : (p : ℕ → Bool) (ws : List ℕ) → AllByRecursion (λ w. p w ≡ true) (filter p ws)
+  passing p [] = tt
+  passing p (w ∷ ws) = elim (p w) as (λ b. p w ≡ b → AllByRecursion (λ v. p v ≡ true) (cond b (w ∷ filter p ws) (filter p ws))) [ true ↦ λ is. (is, passing p ws) | false ↦ λ _. passing p ws ] refl
+
+  -- and the same reports, where each word of the set has the same one
+  pub same_of_told : (p q : ℕ → Bool) (f g : ℕ → Report) (d e : Event) → AreAlike within d e → ((w : ℕ) → within w ≡ true → p w ≡ q w) → ((w : ℕ) → within w ≡ true → f w ≡ g w) →
+      map f (told p d) ≡ map g (told q e)
+  same_of_told p q f g d e alike same equal =
+      map_each (λ w. within ((4 * w) / 4) ≡ true) f g (λ w inside. equal w (sym (by_word w) ∙ inside)) (told p d) (passing (λ w. within ((4 * w) / 4)) (filter p (accessed d)))
+      ∙ ap (map g) (same_told p q d e alike same)
+
+  same_report : (e f : Event) (es fs : List Event) → AgreeWithin within (e ∷ es) (f ∷ fs) → (w : ℕ) → within w ≡ true →
       report_by (e ∷ es) (touch w e) w ≡ report_by (f ∷ fs) (touch w f) w
   same_report e f es fs h w inside = λ i.
       record {
         event = same_length within (e ∷ es) (f ∷ fs) h i;
-        write = writes (same_touch within e f h.0 w (sym (by_word w) ∙ inside) i);
-        thread = thread_by (same_touch within e f h.0 w (sym (by_word w) ∙ inside) i);
+        write = writes (same_touch within e f h.0 w inside i);
+        thread = thread_by (same_touch within e f h.0 w inside i);
         word = 4 * w;
-        threads = threads_in (same_state within w (sym (by_word w) ∙ inside) (e ∷ es) (f ∷ fs) h i);
+        threads = threads_in (same_state within w inside (e ∷ es) (f ∷ fs) h i);
       }
 
-  told_by : (e : Event) (past : List Event) → reports_within within (reports_at_last (e ∷ past)) ≡ map (λ w. report_by (e ∷ past) (touch w e) w) (told e past)
+  told_by : (e : Event) (past : List Event) → reports_within within (reports_at_last (e ∷ past)) ≡ map (λ w. report_by (e ∷ past) (touch w e) w) (told (is_reported (e ∷ past)) e)
   told_by e past = ap (reports_within within) (reports_by e past) ∙ filter_map (λ r. within (r.word / 4)) (λ w. report_by (e ∷ past) (touch w e) w) (filter (is_reported (e ∷ past)) (accessed e))
-
-  passing : (p : ℕ → Bool) (ws : List ℕ) → AllByRecursion (λ w. p w ≡ true) (filter p ws)
-  passing p [] = tt
-  passing p (w ∷ ws) = elim (p w) as (λ b. p w ≡ b → AllByRecursion (λ v. p v ≡ true) (cond b (w ∷ filter p ws) (filter p ws))) [ true ↦ λ is. (is, passing p ws) | false ↦ λ _. passing p ws ] refl
 
   pub same_last : (es fs : List Event) → AgreeWithin within es fs → reports_within within (reports_at_last es) ≡ reports_within within (reports_at_last fs)
   same_last [] [] h = refl
@@ -136,8 +144,7 @@ module _ (within : ℕ → Bool) where
   same_last (e ∷ es) [] h = absurd h
   same_last (e ∷ es) (f ∷ fs) h =
       told_by e es
-      ∙ map_each (λ w. within ((4 * w) / 4) ≡ true) _ _ (same_report e f es fs h) (told e es) (passing (λ w. within ((4 * w) / 4)) (filter (is_reported (e ∷ es)) (accessed e)))
-      ∙ ap (map (λ w. report_by (f ∷ fs) (touch w f) w)) (same_told e f es fs h)
+      ∙ same_of_told (is_reported (e ∷ es)) (is_reported (f ∷ fs)) _ _ e f h.0 (λ w inside. same_reported within w inside (e ∷ es) (f ∷ fs) h) (same_report e f es fs h)
       ∙ sym (told_by f fs)
 
   pub same_reports : (es fs : List Event) → AgreeWithin within es fs → reports_within within (all_reports es) ≡ reports_within within (all_reports fs)

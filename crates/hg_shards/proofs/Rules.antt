@@ -13,7 +13,7 @@ use Rattle.hg_shards.specs.Alike.{is_of_memory, DoTheSame, AreAlike, AgreeWithin
 
 -- ---- an event of memory leaves it all as it was
 
-opens_none : (segments : List Segment) (e : Event) → is_of_memory e ≡ true → opened segments e ≡ []
+pub opens_none : (segments : List Segment) (e : Event) → is_of_memory e ≡ true → opened segments e ≡ []
 opens_none segments (Fork p c) h = absurd (false≢true h)
 opens_none segments (Join p c) h = absurd (false≢true h)
 opens_none segments (Send t k) h = absurd (false≢true h)

@@ -30,7 +30,7 @@ first_among x y ys f h =
     at_least x y (z ∷ zs) f h =
         ⊎_elim (λ same. let e = eqb-true z x same in let l = f.0 in omega arith) (λ later. let l = at_least x z zs f.1 later in let m = f.0 in omega arith) (or_cases (nat_eq z x) _ h)
 
-has_first : (x : ℕ) (xs : List ℕ) → contains (x ∷ xs) x ≡ true
+pub has_first : (x : ℕ) (xs : List ℕ) → contains (x ∷ xs) x ≡ true
 has_first x xs = or_left (nat_eq x x) _ (eq-eqb x x refl)
 
 without_first : (x : ℕ) (xs ys : List ℕ) → From (suc x) xs → From (suc x) ys → ((w : ℕ) → contains (x ∷ xs) w ≡ contains (x ∷ ys) w) → (w : ℕ) → contains xs w ≡ contains ys w

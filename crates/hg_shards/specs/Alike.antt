@@ -1,9 +1,11 @@
 -- Traces that do the same to the words of a set, whatever they do to other words.
-use Rattle.std.specs.Prelude.{◌≡◌, ◌⊎◌, ℕ, ◌/◌, Bool, true, false, List, [], ◌∷◌, filter, if◌then◌else◌}
+use Rattle.std.specs.Prelude.{◌≡◌, ◌⊎◌, ℕ, ◌/◌, Bool, true, false, List, [], ◌∷◌, filter, map, if◌then◌else◌}
 use Rattle.hg_model.specs.declared.event.Event.{Event}
 use Rattle.hg_model.specs.declared.event.Event.TheVariants.{Read, Write, Alloc, Free}
+use Rattle.hg_model.specs.declared.event.Named.{Named}
 use Rattle.hg_model.specs.declared.report.Report.{Report}
 use Rattle.hg_model.specs.History.{overlaps}
+use Rattle.hg_model.specs.Contents.{Content, events_of}
 
 -- What an event does to a word: nothing, a read or a write by a thread, or the word is new from then on.
 pub data Touch : Type 0 where
@@ -44,6 +46,23 @@ AgreeWithin within [] [] = Unit {0}
 AgreeWithin within [] (f ∷ fs) = ⊥
 AgreeWithin within (e ∷ es) [] = ⊥
 AgreeWithin within (e ∷ es) (f ∷ fs) = AreAlike within e f × AgreeWithin within es fs
+
+-- The named traces come from the same sources, event by event, and agree.
+pub record AgreeByName (within : ℕ → Bool) (ms ns : List Named) : Type 0 where
+  pub sources : map (λ n. n.source) ms ≡ map (λ n. n.source) ns
+  pub events : AgreeWithin within (events_of ms) (events_of ns)
+
+-- The contents have the same count of events, segments and threads, and the same words of the set.
+pub record ContentsAgree (within : ℕ → Bool) (c d : Content) : Type 0 where
+  pub events : c.events ≡ d.events
+  pub segments : c.segments ≡ d.segments
+  pub threads : c.threads ≡ d.threads
+  pub words : (w : ℕ) → within w ≡ true → c.words w ≡ d.words w
+
+-- The event is of memory and touches no word of the set.
+pub record PassesBy (within : ℕ → Bool) (e : Event) : Type 0 where
+  pub memory : is_of_memory e ≡ true
+  pub nothing : (w : ℕ) → within w ≡ true → touch w e ≡ Untouched
 
 -- the reports of words of the set
 abbrev pub reports_within : (ℕ → Bool) → List Report → List Report

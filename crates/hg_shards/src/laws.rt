@@ -1,9 +1,30 @@
 //! Laws of a trace and its parts, each the promise of a function without a body.
 
-ghost use Rattle.hg_shards.specs.Laws.{OtherWordsDoNotMatter};
+ghost use Rattle.hg_shards.specs.Laws.{OtherWordsDoNotMatter, VerdictsNeedNoAccess, SummariesAgree, StepsAgree, PassingChangesNothing};
 
 /// Two traces that do the same to the words of a set have the same segments, threads and held locks, and for each word of
 /// the set the same history, state and reports.
 pub fn other_words_do_not_matter()
     ensures { OtherWordsDoNotMatter }
+{}
+
+/// The verdict on an event is the same after two traces that differ in what they do to other words.
+pub fn verdicts_need_no_access()
+    ensures { VerdictsNeedNoAccess }
+{}
+
+/// Traces that do the same to the words of a set leave contents that agree on them.
+pub fn summaries_agree()
+    ensures { SummariesAgree }
+{}
+
+/// Contents that agree on the words of a set still do after events that do the same to them, and the reports of these words
+/// are the same.
+pub fn steps_agree()
+    ensures { StepsAgree }
+{}
+
+/// An access or a block that touches no word of a set is counted, and does nothing else to what a part keeps.
+pub fn passing_changes_nothing()
+    ensures { PassingChangesNothing }
 {}
