@@ -4,3 +4,7 @@ pub mod Sets
 pub mod Reports
 pub mod Verdicts
 pub mod Steps
+pub mod Order
+pub mod Rising
+pub mod Merging
+pub mod Parts

@@ -10,6 +10,8 @@ use Rattle.hg_model.specs.declared.event.Named.{Named}
 use Rattle.hg_model.specs.Contents.{Content, threads_of, summary}
 use Rattle.hg_model.specs.Verdicts.{verdict, standing_of}
 use Rattle.hg_model.specs.Change.{after, new_reports}
+use Rattle.hg_shards.specs.Merging.{Rises}
+use Rattle.hg_shards.specs.Pages.{AreParts, MakeTheWhole, by_part}
 use Rattle.hg_shards.specs.Alike.{AreAlike, AgreeWithin, AgreeByName, ContentsAgree, PassesBy, reports_within}
 
 -- The two traces have the same segments, threads and held locks, and for each word of the set the same history, state and reports,
@@ -50,3 +52,13 @@ with_one_more c = record c { events = c.events + 1 }
 abbrev pub PassingChangesNothing : Type 0
 PassingChangesNothing = (within : ℕ → Bool) (c : Content) (n : Named) → PassesBy within n.event →
     ContentsAgree within (after c n) (with_one_more c) × (reports_within within (new_reports c n.event) ≡ [])
+
+-- The reports of a trace rise, by event and then by word.
+abbrev pub ReportsRise : Type 0
+ReportsRise = (trace : List Event) → Rises (all_reports trace)
+
+-- The reports of the parts make those of the trace, all of them and those at the last event.
+abbrev pub PartsMakeTheWhole : Type 0
+PartsMakeTheWhole = (count : ℕ) (part_of : ℕ → ℕ) (trace : List Event) (trace_of : ℕ → List Event) → AreParts count part_of trace trace_of →
+    MakeTheWhole (by_part count part_of (λ k. all_reports (trace_of k))) (all_reports trace)
+    × MakeTheWhole (by_part count part_of (λ k. reports_at_last (trace_of k))) (reports_at_last trace)

@@ -1,2 +1,4 @@
 pub mod Alike
+pub mod Merging
+pub mod Pages
 pub mod Laws

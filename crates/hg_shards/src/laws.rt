@@ -1,6 +1,6 @@
 //! Laws of a trace and its parts, each the promise of a function without a body.
 
-ghost use Rattle.hg_shards.specs.Laws.{OtherWordsDoNotMatter, VerdictsNeedNoAccess, SummariesAgree, StepsAgree, PassingChangesNothing};
+ghost use Rattle.hg_shards.specs.Laws.{OtherWordsDoNotMatter, VerdictsNeedNoAccess, SummariesAgree, StepsAgree, PassingChangesNothing, ReportsRise, PartsMakeTheWhole};
 
 /// Two traces that do the same to the words of a set have the same segments, threads and held locks, and for each word of
 /// the set the same history, state and reports.
@@ -27,4 +27,15 @@ pub fn steps_agree()
 /// An access or a block that touches no word of a set is counted, and does nothing else to what a part keeps.
 pub fn passing_changes_nothing()
     ensures { PassingChangesNothing }
+{}
+
+/// The reports of a trace rise, by event and then by word.
+pub fn reports_rise()
+    ensures { ReportsRise }
+{}
+
+/// The reports of a trace are those of its parts, merged by event and then by word. No report is in two parts, the totals add
+/// up, and the reports that are kept of the whole are among those that are kept of each part.
+pub fn parts_make_the_whole()
+    ensures { PartsMakeTheWhole }
 {}
