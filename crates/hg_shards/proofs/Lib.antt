@@ -8,3 +8,4 @@ pub mod Order
 pub mod Rising
 pub mod Merging
 pub mod Parts
+pub mod Taking
