@@ -9,3 +9,6 @@ pub mod Rising
 pub mod Merging
 pub mod Parts
 pub mod Taking
+pub mod Counting
+pub mod Tables
+pub mod Asking

@@ -177,3 +177,6 @@ parts_make_the_whole_lem count part_of trace trace_of h = (
   (λ k lt. same_last (words_of_part part_of k) trace (trace_of k) (h.agree k (omega arith))))
   (make_the_whole count part_of h.some (reports_at_last trace) (last_rise trace)),
 )
+
+pub shares_make_the_whole_lem : (count : ℕ) (part_of : ℕ → ℕ) (whole : List Report) → ((page : ℕ) → part_of page < count) → Rises whole → MakeTheWhole (by_part count part_of (λ k. whole)) whole
+shares_make_the_whole_lem count part_of whole some up = make_the_whole count part_of some whole up

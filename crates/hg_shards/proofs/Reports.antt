@@ -14,15 +14,10 @@ use Rattle.hg_model.specs.Reporting.{words_of, is_reported, report, reports_at_l
 use Rattle.hg_model.proofs.Rising.{From, from_increasing}
 use Rattle.hg_model.proofs.Reported.{words_lem}
 use Rattle.hg_shards.specs.Alike.{Touch, Untouched, ReadBy, WrittenBy, Renewed, touch, AreAlike, AgreeWithin, reports_within}
+use Rattle.hg_shards.specs.Asking.{accessed}
 use Rattle.hg_shards.proofs.Rules.{same_length}
 use Rattle.hg_shards.proofs.Lives.{same_touch, same_state, same_reported}
 use Rattle.hg_shards.proofs.Sets.{from_filter, rising_same, contains_filter, each_member}
-
--- the words of an access
-abbrev pub accessed : Event → List ℕ
-accessed (Read a) = words_of a.at a.len
-accessed (Write a) = words_of a.at a.len
-accessed _ = []
 
 abbrev pub is_access : Touch → Bool
 is_access (ReadBy t) = true
@@ -50,7 +45,7 @@ accessed_rise (Read a) = words_rise a.at a.len
 accessed_rise (Write a) = words_rise a.at a.len
 accessed_rise e = tt
 
-accessed_words : (e : Event) (w : ℕ) → contains (accessed e) w ≡ is_access (touch w e)
+pub accessed_words : (e : Event) (w : ℕ) → contains (accessed e) w ≡ is_access (touch w e)
 accessed_words (Read a) w = (words_lem a.at a.len).1 w ∙ elim (overlaps a.at a.len w) as (λ b. b ≡ is_access (cond b (ReadBy a.t) Untouched)) [ true ↦ refl | false ↦ refl ]
 accessed_words (Write a) w = (words_lem a.at a.len).1 w ∙ elim (overlaps a.at a.len w) as (λ b. b ≡ is_access (cond b (WrittenBy a.t) Untouched)) [ true ↦ refl | false ↦ refl ]
 accessed_words (Alloc b) w = elim (overlaps b.at b.len w) as (λ c. false ≡ is_access (cond c Renewed Untouched)) [ true ↦ refl | false ↦ refl ]

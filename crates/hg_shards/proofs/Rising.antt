@@ -5,10 +5,11 @@ use Rattle.hg_model.specs.declared.event.Event.{Event}
 use Rattle.hg_model.specs.declared.report.Report.{Report}
 use Rattle.hg_model.specs.Reporting.{is_reported, reports_at_last, all_reports}
 use Rattle.hg_model.proofs.Rising.{From}
+use Rattle.hg_shards.specs.Asking.{accessed}
 use Rattle.hg_shards.specs.Alike.{touch}
 use Rattle.hg_shards.specs.Merging.{IsBefore, Rises}
 use Rattle.hg_shards.proofs.Sets.{from_filter}
-use Rattle.hg_shards.proofs.Reports.{accessed, accessed_rise, report_by, reports_by}
+use Rattle.hg_shards.proofs.Reports.{accessed_rise, report_by, reports_by}
 use Rattle.hg_shards.proofs.Order.{before, each_both, each_weaker}
 
 pub rises_both : (xs ys : List Report) → Rises xs → Rises ys → AllByRecursion (λ x. AllByRecursion (IsBefore x) ys) xs → Rises (xs ++ ys)

@@ -17,12 +17,13 @@ use Rattle.hg_model.specs.Reporting.{words_of}
 use Rattle.hg_model.specs.Contents.{Content}
 use Rattle.hg_model.specs.Change.{touched, threads_after, locks_of, word_after, is_racy, becomes_racy, new_reports, reported_after, after}
 use Rattle.hg_model.proofs.Reported.{words_lem}
+use Rattle.hg_shards.specs.Asking.{accessed}
 use Rattle.hg_shards.specs.Alike.{Touch, Untouched, ReadBy, WrittenBy, Renewed, touch, is_of_memory, DoTheSame, AreAlike, ContentsAgree, PassesBy, reports_within}
 use Rattle.hg_shards.specs.Laws.{with_one_more}
 use Rattle.hg_shards.proofs.Rules.{opens_none, opened_alike}
 use Rattle.hg_shards.proofs.Lives.{same_touch}
 use Rattle.hg_shards.proofs.Sets.{each_member, has_first}
-use Rattle.hg_shards.proofs.Reports.{accessed, is_access, writes, thread_by, told, same_of_told, in_told, map_each, each_filter, filter_map}
+use Rattle.hg_shards.proofs.Reports.{is_access, writes, thread_by, told, same_of_told, in_told, map_each, each_filter, filter_map}
 
 -- the word after this was done to it
 abbrev word_by : Content → Touch → ℕ → WordState

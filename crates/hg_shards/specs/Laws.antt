@@ -1,17 +1,22 @@
 -- The laws of a trace and its parts, which empty public functions promise.
-use Rattle.std.specs.Prelude.{◌≡◌, ℕ, ◌+◌, Bool, true, List, [], length}
+use Rattle.std.specs.Prelude.{◌≡◌, ℕ, ◌+◌, ◌<◌, ◌≤◌, Bool, true, List, [], length, Option, Some, None}
+use Rattle.std.specs.List.{flat_map, range_with_len}
 use Rattle.hg_model.specs.declared.event.Event.{Event}
+use Rattle.hg_model.specs.declared.report.Report.{Report}
 use Rattle.hg_model.specs.Locks.{held}
 use Rattle.hg_model.specs.Segments.{segments_of}
 use Rattle.hg_model.specs.History.{history}
 use Rattle.hg_model.specs.Sharing.{state}
 use Rattle.hg_model.specs.Reporting.{is_reported, reports_at_last, all_reports}
 use Rattle.hg_model.specs.declared.event.Named.{Named}
-use Rattle.hg_model.specs.Contents.{Content, threads_of, summary}
-use Rattle.hg_model.specs.Verdicts.{verdict, standing_of}
+use Rattle.hg_model.specs.Contents.{Content, events_of, threads_of, summary}
+use Rattle.hg_model.specs.Verdicts.{verdict, standing_of, IsAccepted}
 use Rattle.hg_model.specs.Change.{after, new_reports}
+use Rattle.hg_sets.specs.Interning.{Table, first_table}
+use Rattle.hg_sets.specs.declared.fault.SetFault.TheVariants.{Full}
+use Rattle.hg_shards.specs.Asking.{AsksForTrace, anywhere, asked, has_set, size_with}
 use Rattle.hg_shards.specs.Merging.{Rises}
-use Rattle.hg_shards.specs.Pages.{AreParts, MakeTheWhole, by_part}
+use Rattle.hg_shards.specs.Pages.{AreParts, MakeTheWhole, by_part, words_of_part}
 use Rattle.hg_shards.specs.Alike.{AreAlike, AgreeWithin, AgreeByName, ContentsAgree, PassesBy, reports_within}
 
 -- The two traces have the same segments, threads and held locks, and for each word of the set the same history, state and reports,
@@ -62,3 +67,28 @@ abbrev pub PartsMakeTheWhole : Type 0
 PartsMakeTheWhole = (count : ℕ) (part_of : ℕ → ℕ) (trace : List Event) (trace_of : ℕ → List Event) → AreParts count part_of trace trace_of →
     MakeTheWhole (by_part count part_of (λ k. all_reports (trace_of k))) (all_reports trace)
     × MakeTheWhole (by_part count part_of (λ k. reports_at_last (trace_of k))) (reports_at_last trace)
+
+-- Rising reports are made by the shares that parts have in them.
+abbrev pub SharesMakeTheWhole : Type 0
+SharesMakeTheWhole = (count : ℕ) (part_of : ℕ → ℕ) (whole : List Report) → ((page : ℕ) → part_of page < count) → Rises whole → MakeTheWhole (by_part count part_of (λ k. whole)) whole
+
+-- What traces do to other words does not matter to the sets that they ask for.
+abbrev pub OtherWordsAskForOtherSets : Type 0
+OtherWordsAskForOtherSets = (within : ℕ → Bool) (es fs : List Event) → AgreeWithin within es fs → asked within es ≡ asked within fs
+
+-- the sets that the parts ask for, part by part
+abbrev pub asked_by_parts : ℕ → (ℕ → ℕ) → (ℕ → List Event) → List (List ℕ)
+asked_by_parts count part_of trace_of = flat_map (λ k. asked (words_of_part part_of k) (trace_of k)) (range_with_len 0 count)
+
+-- A trace asks for the sets that its parts ask for and no others, so its table has as many as theirs have together.
+abbrev pub PartsAskForTheSets : Type 0
+PartsAskForTheSets = (count : ℕ) (part_of : ℕ → ℕ) (trace : List Event) (trace_of : ℕ → List Event) → AreParts count part_of trace trace_of →
+    ((set : List ℕ) → has_set (asked anywhere trace) set ≡ has_set (asked_by_parts count part_of trace_of) set)
+    × (size_with (asked anywhere trace) ≡ size_with (asked_by_parts count part_of trace_of))
+
+-- A table with room for `limit` sets takes an accepted trace where the sets that it asks for are no more, with the empty set. It refuses
+-- the trace's last event as full only where they are more.
+abbrev pub FullByTheSets : Type 0
+FullByTheSets = (limit : ℕ) (trace : List Named) (table : Table) → 0 < limit → IsAccepted trace →
+    (AsksForTrace (first_table limit) trace None table → (length table.sets ≡ size_with (asked anywhere (events_of trace))) × (length table.sets ≤ limit))
+    × (AsksForTrace (first_table limit) trace (Some Full) table → limit < size_with (asked anywhere (events_of trace)))

@@ -1,4 +1,5 @@
 pub mod Alike
 pub mod Merging
 pub mod Pages
+pub mod Asking
 pub mod Laws

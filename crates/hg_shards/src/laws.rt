@@ -1,6 +1,6 @@
 //! Laws of a trace and its parts, each the promise of a function without a body.
 
-ghost use Rattle.hg_shards.specs.Laws.{OtherWordsDoNotMatter, VerdictsNeedNoAccess, SummariesAgree, StepsAgree, PassingChangesNothing, ReportsRise, PartsMakeTheWhole};
+ghost use Rattle.hg_shards.specs.Laws.{OtherWordsDoNotMatter, VerdictsNeedNoAccess, SummariesAgree, StepsAgree, PassingChangesNothing, ReportsRise, PartsMakeTheWhole, SharesMakeTheWhole, OtherWordsAskForOtherSets, PartsAskForTheSets, FullByTheSets};
 
 /// Two traces that do the same to the words of a set have the same segments, threads and held locks, and for each word of
 /// the set the same history, state and reports.
@@ -38,4 +38,25 @@ pub fn reports_rise()
 /// up, and the reports that are kept of the whole are among those that are kept of each part.
 pub fn parts_make_the_whole()
     ensures { PartsMakeTheWhole }
+{}
+
+/// Rising reports, as those of some events in a row, are what is merged of the shares that parts have in them.
+pub fn shares_make_the_whole()
+    ensures { SharesMakeTheWhole }
+{}
+
+/// Two traces that do the same to the words of a set ask for the same sets of threads and locks of these words.
+pub fn other_words_ask_for_other_sets()
+    ensures { OtherWordsAskForOtherSets }
+{}
+
+/// The sets that a trace asks for are those that its parts ask for, and as many.
+pub fn parts_ask_for_the_sets()
+    ensures { PartsAskForTheSets }
+{}
+
+/// The event that is refused since the table of sets is full is the first one up to which the sets that are asked for, with the
+/// empty set, are more than the table has room for.
+pub fn full_by_the_sets()
+    ensures { FullByTheSets }
 {}

@@ -1,0 +1,192 @@
+-- The sets that a trace and its parts ask for.
+use Rattle.std.proofs.Common.{◌≡◌, ℕ, zero, suc, ◌+◌, ◌<◌, ◌≤◌, Bool, true, false, cond, ◌||◌, ◌&&◌, nat_eq, List, [], ◌∷◌, ◌++◌, length, map, filter, Option, Some, None, refl, sym, ap, ◌∙◌, subst, ⊎_elim, arith}
+use Rattle.std.proofs.lemmas.Bool.{false≢true}
+use Rattle.std.proofs.lemmas.List.Folds.{list_any-append}
+use Rattle.std.specs.Cmp.Lexicographic.{pointwise}
+use Rattle.std.specs.List.{AllByRecursion, flat_map, list_any, range_with_len}
+use Rattle.hg_model.specs.declared.event.Event.{Event}
+use Rattle.hg_model.specs.declared.event.Event.TheVariants.{Read, Write}
+use Rattle.hg_model.specs.declared.event.Named.{Named}
+use Rattle.hg_model.specs.Segments.{segments_of}
+use Rattle.hg_model.specs.History.{history}
+use Rattle.hg_model.specs.Sets.{contains}
+use Rattle.hg_model.specs.Sharing.{state}
+use Rattle.hg_model.specs.Reporting.{words_of}
+use Rattle.hg_model.specs.Contents.{events_of, summary}
+use Rattle.hg_model.specs.Verdicts.{IsAccepted}
+use Rattle.hg_model.specs.Change.{word_after}
+use Rattle.hg_model.proofs.Accepted.{Passes, passes}
+use Rattle.hg_model.proofs.Words.{HistoryFits, history_fits, word_law}
+use Rattle.hg_sets.specs.Interning.{Table, first_table}
+use Rattle.hg_sets.specs.declared.fault.SetFault.TheVariants.{Full}
+use Rattle.hg_detect.specs.Making.{sets_asked, sets_in}
+use Rattle.hg_shards.specs.Alike.{touch, AreAlike, AgreeWithin}
+use Rattle.hg_shards.specs.Pages.{page_of, words_of_part, AreParts}
+use Rattle.hg_shards.specs.Asking.{accessed, sets_of, asked_at_last, asked, anywhere, has_set, size_with, AsksForTrace}
+use Rattle.hg_shards.specs.Laws.{asked_by_parts}
+use Rattle.hg_shards.proofs.Lives.{same_touch, same_state}
+use Rattle.hg_shards.proofs.Sets.{from_filter, rising_same, contains_filter}
+use Rattle.hg_shards.proofs.Reports.{accessed_rise, accessed_words, is_access}
+use Rattle.hg_shards.proofs.Counting.{same_count}
+use Rattle.hg_shards.proofs.Tables.{Has, first_has, asks_none, asks_full, size_is}
+use Rattle.hg_shards.proofs.Merging.{among}
+use Rattle.hg_shards.proofs.Parts.{number_among, map_numbers}
+
+-- ---- other words do not matter
+
+module _ (within : ℕ → Bool) where
+  same_words : (e f : Event) → AreAlike within e f → filter within (accessed e) ≡ filter within (accessed f)
+  same_words e f alike =
+      rising_same 0 (filter within (accessed e)) (filter within (accessed f)) (from_filter within 0 (accessed e) (accessed_rise e)) (from_filter within 0 (accessed f) (accessed_rise f))
+      (λ w.
+          contains_filter within (accessed e) w ∙ ap (λ b. within w && b) (accessed_words e w)
+          ∙ by (within w) (λ inside. ap is_access (same_touch within e f alike w inside))
+          ∙ sym (contains_filter within (accessed f) w ∙ ap (λ b. within w && b) (accessed_words f w)))
+    where
+      by : {x y : Bool} (b : Bool) → (b ≡ true → x ≡ y) → (b && x) ≡ (b && y)
+      by true same = same refl
+      by false same = refl
+
+  flat_passing : (f g : ℕ → List (List ℕ)) → ((w : ℕ) → within w ≡ true → f w ≡ g w) → (ws : List ℕ) → flat_map f (filter within ws) ≡ flat_map g (filter within ws)
+  flat_passing f g same [] = refl
+  flat_passing f g same (w ∷ ws) =
+      elim (within w) as (λ b. within w ≡ b → flat_map f (cond b (w ∷ filter within ws) (filter within ws)) ≡ flat_map g (cond b (w ∷ filter within ws) (filter within ws))) [
+        | true ↦ λ inside i. same w inside i ++ flat_passing f g same ws i
+        | false ↦ λ _. flat_passing f g same ws
+      ] refl
+
+  pub same_asked : (es fs : List Event) → AgreeWithin within es fs → asked within es ≡ asked within fs
+  same_asked [] [] h = refl
+  same_asked [] (f ∷ fs) h = absurd h
+  same_asked (e ∷ es) [] h = absurd h
+  same_asked (e ∷ es) (f ∷ fs) h =
+      (λ i. same_asked es fs h.1 i ++ flat_map (sets_of (e ∷ es)) (same_words e f h.0 i))
+      ∙ ap (λ sets. asked within fs ++ sets) (flat_passing (sets_of (e ∷ es)) (sets_of (f ∷ fs)) (λ w inside. ap sets_in (same_state within w inside (e ∷ es) (f ∷ fs) h)) (accessed f))
+
+-- ---- the sets of all parts
+
+any_none : (ks : List ℕ) → list_any (λ k. false) ks ≡ false
+any_none [] = refl
+any_none (k ∷ ks) = any_none ks
+
+any_or : (f g : ℕ → Bool) (ks : List ℕ) → list_any (λ k. f k || g k) ks ≡ (list_any f ks || list_any g ks)
+any_or f g [] = refl
+any_or f g (k ∷ ks) = ap (λ b. (f k || g k) || b) (any_or f g ks) ∙ swap (f k) (g k) (list_any f ks) (list_any g ks)
+  where
+    swap : (a b c d : Bool) → ((a || b) || (c || d)) ≡ ((a || c) || (b || d))
+    swap true b c d = refl
+    swap false true true d = refl
+    swap false true false d = refl
+    swap false false c d = refl
+
+any_and : (f : ℕ → Bool) (b : Bool) (ks : List ℕ) → list_any (λ k. f k && b) ks ≡ (list_any f ks && b)
+any_and f b [] = refl
+any_and f b (k ∷ ks) = ap (λ c. (f k && b) || c) (any_and f b ks) ∙ join (f k) (list_any f ks) b
+  where
+    join : (x y z : Bool) → ((x && z) || (y && z)) ≡ ((x || y) && z)
+    join true true true = refl
+    join true true false = refl
+    join true false true = refl
+    join true false false = refl
+    join false y z = refl
+
+any_same : (f g : ℕ → Bool) → ((k : ℕ) → f k ≡ g k) → (ks : List ℕ) → list_any f ks ≡ list_any g ks
+any_same f g same [] = refl
+any_same f g same (k ∷ ks) = λ i. same k i || any_same f g same ks i
+
+has_flat : (f : ℕ → List (List ℕ)) (set : List ℕ) (ks : List ℕ) → has_set (flat_map f ks) set ≡ list_any (λ k. has_set (f k) set) ks
+has_flat f set [] = refl
+has_flat f set (k ∷ ks) = list_any-append (pointwise nat_eq set) (f k) (flat_map f ks) ∙ ap (λ b. has_set (f k) set || b) (has_flat f set ks)
+
+any_filter : (test p : ℕ → Bool) (ws : List ℕ) → list_any p (filter test ws) ≡ list_any (λ w. test w && p w) ws
+any_filter test p [] = refl
+any_filter test p (w ∷ ws) =
+    elim (test w) as (λ b. list_any p (cond b (w ∷ filter test ws) (filter test ws)) ≡ ((b && p w) || list_any (λ v. test v && p v) ws)) [
+      | true ↦ ap (λ b. p w || b) (any_filter test p ws)
+      | false ↦ any_filter test p ws
+    ]
+
+module _ (part : ℕ → ℕ) (numbers : List ℕ) (some : (w : ℕ) → among (part w) numbers ≡ true) where
+  spread : (p : ℕ → Bool) (ws : List ℕ) → list_any (λ k. list_any (λ w. nat_eq (part w) k && p w) ws) numbers ≡ list_any p ws
+  spread p [] = any_none numbers
+  spread p (w ∷ ws) =
+      any_or (λ k. nat_eq (part w) k && p w) (λ k. list_any (λ v. nat_eq (part v) k && p v) ws) numbers
+      ∙ (λ i. (any_and (λ k. nat_eq (part w) k) (p w) numbers ∙ ap (λ b. b && p w) (some w)) i || spread p ws i)
+
+  spread_at_last : (set : List ℕ) (trace : List Event) → list_any (λ k. has_set (asked_at_last (λ w. nat_eq (part w) k) trace) set) numbers ≡ has_set (asked_at_last anywhere trace) set
+  spread_at_last set [] = any_none numbers
+  spread_at_last set (e ∷ past) =
+      let p = λ (w : ℕ). has_set (sets_of (e ∷ past) w) set in
+      any_same (λ k. has_set (flat_map (sets_of (e ∷ past)) (filter (λ w. nat_eq (part w) k) (accessed e))) set) (λ k. list_any (λ w. nat_eq (part w) k && p w) (accessed e))
+      (λ k. has_flat (sets_of (e ∷ past)) set (filter (λ w. nat_eq (part w) k) (accessed e)) ∙ any_filter (λ w. nat_eq (part w) k) p (accessed e)) numbers
+      ∙ spread p (accessed e)
+      ∙ sym (has_flat (sets_of (e ∷ past)) set (filter anywhere (accessed e)) ∙ any_filter anywhere p (accessed e))
+
+  spread_all : (set : List ℕ) (trace : List Event) → list_any (λ k. has_set (asked (λ w. nat_eq (part w) k) trace) set) numbers ≡ has_set (asked anywhere trace) set
+  spread_all set [] = any_none numbers
+  spread_all set (e ∷ past) =
+      any_same (λ k. has_set (asked (λ w. nat_eq (part w) k) past ++ asked_at_last (λ w. nat_eq (part w) k) (e ∷ past)) set) _
+      (λ k. list_any-append (pointwise nat_eq set) (asked (λ w. nat_eq (part w) k) past) (asked_at_last (λ w. nat_eq (part w) k) (e ∷ past))) numbers
+      ∙ any_or (λ k. has_set (asked (λ w. nat_eq (part w) k) past) set) (λ k. has_set (asked_at_last (λ w. nat_eq (part w) k) (e ∷ past)) set) numbers
+      ∙ (λ i. spread_all set past i || spread_at_last set (e ∷ past) i)
+      ∙ sym (list_any-append (pointwise nat_eq set) (asked anywhere past) (asked_at_last anywhere (e ∷ past)))
+
+flat_numbers : (f g : ℕ → List (List ℕ)) (a n : ℕ) → ((k : ℕ) → k < a + n → f k ≡ g k) → flat_map f (range_with_len a n) ≡ flat_map g (range_with_len a n)
+flat_numbers f g a zero same = refl
+flat_numbers f g a (suc n) same = λ i. same a (omega arith) i ++ flat_numbers f g (a + 1) n (λ k lt. same k (omega arith)) i
+
+pub parts_ask : (count : ℕ) (part_of : ℕ → ℕ) (trace : List Event) (trace_of : ℕ → List Event) → AreParts count part_of trace trace_of →
+    ((set : List ℕ) → has_set (asked anywhere trace) set ≡ has_set (asked_by_parts count part_of trace_of) set)
+    × (size_with (asked anywhere trace) ≡ size_with (asked_by_parts count part_of trace_of))
+parts_ask count part_of trace trace_of h = (members, same_count ([] ∷ asked anywhere trace) ([] ∷ asked_by_parts count part_of trace_of) (λ q. ap (λ b. pointwise nat_eq q [] || b) (members q)))
+  where
+    own : asked_by_parts count part_of trace_of ≡ flat_map (λ k. asked (words_of_part part_of k) trace) (range_with_len 0 count)
+    own = flat_numbers _ _ 0 count (λ k lt. sym (same_asked (words_of_part part_of k) trace (trace_of k) (h.agree k (omega arith))))
+
+    members : (set : List ℕ) → has_set (asked anywhere trace) set ≡ has_set (asked_by_parts count part_of trace_of) set
+    members set =
+        sym (spread_all (λ w. part_of (page_of w)) (range_with_len 0 count) (λ w. number_among 0 count (part_of (page_of w)) (omega arith) (let lt = h.some (page_of w) in omega arith)) set trace)
+        ∙ sym (has_flat (λ k. asked (words_of_part part_of k) trace) set (range_with_len 0 count))
+        ∙ ap (λ (sets : List (List ℕ)). has_set sets set) (sym own)
+
+-- ---- the table of an accepted trace
+
+filter_all : (ws : List ℕ) → filter anywhere ws ≡ ws
+filter_all [] = refl
+filter_all (w ∷ ws) = ap (λ vs. w ∷ vs) (filter_all ws)
+
+flat_same : (f g : ℕ → List (List ℕ)) → ((w : ℕ) → f w ≡ g w) → (ws : List ℕ) → flat_map f ws ≡ flat_map g ws
+flat_same f g same [] = refl
+flat_same f g same (w ∷ ws) = λ i. same w i ++ flat_same f g same ws i
+
+asked_by_words : (trace : List Named) (e : Event) → sets_asked (summary trace) e ≡ flat_map (λ w. sets_in (word_after (summary trace) e w)) (accessed e)
+asked_by_words trace (Read a) = refl
+asked_by_words trace (Write a) = refl
+asked_by_words trace e = refl
+
+asked_is : (n : Named) (past : List Named) → IsAccepted (n ∷ past) → sets_asked (summary past) n.event ≡ asked_at_last anywhere (events_of (n ∷ past))
+asked_is n past h =
+    asked_by_words past n.event
+    ∙ flat_same (λ w. sets_in (word_after (summary past) n.event w)) (sets_of (n.event ∷ events_of past))
+    (λ w. ap sets_in (sym (word_law past n.event w (passes past n h.1) (history_fits past h.0 w)))) (accessed n.event)
+    ∙ ap (flat_map (sets_of (n.event ∷ events_of past))) (sym (filter_all (accessed n.event)))
+
+has_trace : (limit : ℕ) → 0 < limit → (trace : List Named) (table : Table) → IsAccepted trace → AsksForTrace (first_table limit) trace None table → Has limit (asked anywhere (events_of trace)) table
+has_trace limit some [] table h a = subst (Has limit []) (sym a.1) (first_has limit some)
+has_trace limit some (n ∷ past) table h a =
+    subst (λ (sets : List (List ℕ)). Has limit (asked anywhere (events_of past) ++ sets) table) (asked_is n past h)
+    (asks_none limit (asked anywhere (events_of past)) (sets_asked (summary past) n.event) a.0 table (has_trace limit some past a.0 h.0 a.1) a.2)
+
+full_trace : (limit : ℕ) → 0 < limit → (trace : List Named) (table : Table) → IsAccepted trace → AsksForTrace (first_table limit) trace (Some Full) table → limit < size_with (asked anywhere (events_of trace))
+full_trace limit some [] table h a = absurd (cc a.0)
+full_trace limit some (n ∷ past) table h a =
+    subst (λ (sets : List (List ℕ)). limit < size_with (asked anywhere (events_of past) ++ sets)) (asked_is n past h)
+    (asks_full limit (asked anywhere (events_of past)) (sets_asked (summary past) n.event) a.0 table (has_trace limit some past a.0 h.0 a.1) a.2)
+
+pub full_lem : (limit : ℕ) (trace : List Named) (table : Table) → 0 < limit → IsAccepted trace →
+    (AsksForTrace (first_table limit) trace None table → (length table.sets ≡ size_with (asked anywhere (events_of trace))) × (length table.sets ≤ limit))
+    × (AsksForTrace (first_table limit) trace (Some Full) table → limit < size_with (asked anywhere (events_of trace)))
+full_lem limit trace table some h = (
+  λ a. let has = has_trace limit some trace table h a in (size_is limit (asked anywhere (events_of trace)) table has, has.within),
+  λ a. full_trace limit some trace table h a,
+)

@@ -1,0 +1,53 @@
+-- The sets that a trace asks the table of sets for.
+use Rattle.std.specs.Prelude.{◌≡◌, ℕ, Bool, true, List, [], ◌∷◌, ◌++◌, filter, nat_eq, Option, None}
+use Rattle.std.specs.Cmp.Lexicographic.{pointwise}
+use Rattle.std.specs.List.{flat_map}
+use Rattle.std.specs.Set.{distinct_count, is_member}
+use Rattle.hg_model.specs.declared.event.Event.{Event}
+use Rattle.hg_model.specs.declared.event.Event.TheVariants.{Read, Write}
+use Rattle.hg_model.specs.declared.event.Named.{Named}
+use Rattle.hg_model.specs.Segments.{segments_of}
+use Rattle.hg_model.specs.History.{history}
+use Rattle.hg_model.specs.Sharing.{state}
+use Rattle.hg_model.specs.Reporting.{words_of}
+use Rattle.hg_model.specs.Contents.{summary}
+use Rattle.hg_sets.specs.Interning.{Table}
+use Rattle.hg_sets.specs.declared.fault.SetFault.{SetFault}
+use Rattle.hg_detect.specs.Making.{Asks, sets_asked, sets_in}
+
+-- the words that an event accesses, rising
+abbrev pub accessed : Event → List ℕ
+accessed (Read a) = words_of a.at a.len
+accessed (Write a) = words_of a.at a.len
+accessed _ = []
+
+-- the sets of the word w after a trace
+abbrev pub sets_of : List Event → ℕ → List (List ℕ)
+sets_of trace w = sets_in (state (segments_of trace) (history w trace))
+
+-- the sets that the last event asks for, those of each accessed word of the set
+abbrev pub asked_at_last : (ℕ → Bool) → List Event → List (List ℕ)
+asked_at_last within [] = []
+asked_at_last within (e ∷ past) = flat_map (sets_of (e ∷ past)) (filter within (accessed e))
+
+-- the sets that all events ask for, those of words of the set
+abbrev pub asked : (ℕ → Bool) → List Event → List (List ℕ)
+asked within [] = []
+asked within (e ∷ past) = asked within past ++ asked_at_last within (e ∷ past)
+
+-- every word
+abbrev pub anywhere : ℕ → Bool
+anywhere w = true
+
+-- the set is among these
+abbrev pub has_set : List (List ℕ) → List ℕ → Bool
+has_set sets set = is_member (pointwise nat_eq) sets set
+
+-- how many sets a table has that was asked for these: each of them once, and the empty set
+abbrev pub size_with : List (List ℕ) → ℕ
+size_with sets = distinct_count (pointwise nat_eq) ([] ∷ sets)
+
+-- The table was asked for the sets of each event of a trace in turn, and refused none, but maybe one of the last event's.
+abbrev pub AsksForTrace : Table → List Named → Option SetFault → Table → Type 0
+AsksForTrace first [] refused table = (refused ≡ None) × (table ≡ first)
+AsksForTrace first (n ∷ past) refused table = (before : Table) × AsksForTrace first past None before × Asks before (sets_asked (summary past) n.event) refused table
