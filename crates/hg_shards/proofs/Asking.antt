@@ -1,9 +1,13 @@
 -- The sets that a trace and its parts ask for.
 use Rattle.std.proofs.Common.{◌≡◌, ℕ, zero, suc, ◌+◌, ◌<◌, ◌≤◌, Bool, true, false, cond, ◌||◌, ◌&&◌, nat_eq, List, [], ◌∷◌, ◌++◌, length, map, filter, Option, Some, None, refl, sym, ap, ◌∙◌, subst, ⊎_elim, arith}
 use Rattle.std.proofs.lemmas.Bool.{false≢true}
-use Rattle.std.proofs.lemmas.List.Folds.{list_any-append}
+use Rattle.std.proofs.lemmas.List.Concat.{length-flat_map}
+use Rattle.std.proofs.lemmas.List.Folds.{flat_map-map, list_any-append}
+use Rattle.std.proofs.lemmas.List.FromFn.{length-map-range_with_len}
+use Rattle.std.proofs.lemmas.Map.Made.{distinct_count-le}
+use Rattle.std.specs.Set.{unique_keys}
 use Rattle.std.specs.Cmp.Lexicographic.{pointwise}
-use Rattle.std.specs.List.{AllByRecursion, flat_map, list_any, range_with_len}
+use Rattle.std.specs.List.{AllByRecursion, flat_map, list_any, range_with_len, sum_by}
 use Rattle.hg_model.specs.declared.event.Event.{Event}
 use Rattle.hg_model.specs.declared.event.Event.TheVariants.{Read, Write}
 use Rattle.hg_model.specs.declared.event.Named.{Named}
@@ -22,12 +26,11 @@ use Rattle.hg_sets.specs.declared.fault.SetFault.TheVariants.{Full}
 use Rattle.hg_detect.specs.Making.{sets_asked, sets_in}
 use Rattle.hg_shards.specs.Alike.{touch, AreAlike, AgreeWithin}
 use Rattle.hg_shards.specs.Pages.{page_of, words_of_part, AreParts}
-use Rattle.hg_shards.specs.Asking.{accessed, sets_of, asked_at_last, asked, anywhere, has_set, size_with, AsksForTrace}
-use Rattle.hg_shards.specs.Laws.{asked_by_parts}
+use Rattle.hg_shards.specs.Asking.{accessed, sets_of, asked_at_last, asked, anywhere, has_set, size_with, asked_by_part, AsksForTrace, HaveTogether}
 use Rattle.hg_shards.proofs.Lives.{same_touch, same_state}
 use Rattle.hg_shards.proofs.Sets.{from_filter, rising_same, contains_filter}
 use Rattle.hg_shards.proofs.Reports.{accessed_rise, accessed_words, is_access}
-use Rattle.hg_shards.proofs.Counting.{same_count}
+use Rattle.hg_shards.proofs.Counting.{same_count, has_both, unique_members}
 use Rattle.hg_shards.proofs.Tables.{Has, first_has, asks_none, asks_full, size_is}
 use Rattle.hg_shards.proofs.Merging.{among}
 use Rattle.hg_shards.proofs.Parts.{number_among, map_numbers}
@@ -131,23 +134,60 @@ module _ (part : ℕ → ℕ) (numbers : List ℕ) (some : (w : ℕ) → among (
       ∙ (λ i. spread_all set past i || spread_at_last set (e ∷ past) i)
       ∙ sym (list_any-append (pointwise nat_eq set) (asked anywhere past) (asked_at_last anywhere (e ∷ past)))
 
-flat_numbers : (f g : ℕ → List (List ℕ)) (a n : ℕ) → ((k : ℕ) → k < a + n → f k ≡ g k) → flat_map f (range_with_len a n) ≡ flat_map g (range_with_len a n)
-flat_numbers f g a zero same = refl
-flat_numbers f g a (suc n) same = λ i. same a (omega arith) i ++ flat_numbers f g (a + 1) n (λ k lt. same k (omega arith)) i
+-- the members of several lists, each once in its list
+each_once : (lists : List (List (List ℕ))) (set : List ℕ) → 0 < length lists →
+    has_set ([] ∷ flat_map (λ (own : List (List ℕ)). own) lists) set ≡ has_set (flat_map (λ (own : List (List ℕ)). unique_keys (pointwise nat_eq) ([] ∷ own)) lists) set
+each_once [] set some = absurd (omega arith)
+each_once (own ∷ []) set some =
+    ap (λ b. pointwise nat_eq set [] || b) (has_both own [] set ∙ or_false (has_set own set))
+    ∙ sym (has_both (unique_keys (pointwise nat_eq) ([] ∷ own)) [] set ∙ or_false (has_set (unique_keys (pointwise nat_eq) ([] ∷ own)) set) ∙ unique_members ([] ∷ own) set)
+  where
+    or_false : (b : Bool) → (b || false) ≡ b
+    or_false true = refl
+    or_false false = refl
+each_once (own ∷ other ∷ lists) set some =
+    ap (λ b. pointwise nat_eq set [] || b) (has_both own (flat_map (λ (xs : List (List ℕ)). xs) (other ∷ lists)) set)
+    ∙ regroup (pointwise nat_eq set []) (has_set own set) (has_set (flat_map (λ (xs : List (List ℕ)). xs) (other ∷ lists)) set)
+    ∙ (λ i. sym (unique_members ([] ∷ own) set) i || each_once (other ∷ lists) set (omega arith) i)
+    ∙ sym (has_both (unique_keys (pointwise nat_eq) ([] ∷ own)) (flat_map (λ (xs : List (List ℕ)). unique_keys (pointwise nat_eq) ([] ∷ xs)) (other ∷ lists)) set)
+  where
+    regroup : (a b c : Bool) → (a || (b || c)) ≡ ((a || b) || (a || c))
+    regroup true b c = refl
+    regroup false b c = refl
+
+-- all lists together have no more sets than each has by itself
+few_together : (lists : List (List (List ℕ))) → 0 < length lists → size_with (flat_map (λ (own : List (List ℕ)). own) lists) ≤ sum_by size_with lists
+few_together lists some =
+    let all = flat_map (λ (own : List (List ℕ)). unique_keys (pointwise nat_eq) ([] ∷ own)) lists in
+    let same = same_count ([] ∷ flat_map (λ (own : List (List ℕ)). own) lists) all (λ q. each_once lists q some) in
+    let most = distinct_count-le (pointwise nat_eq) all in
+    let sizes = length-flat_map (λ (own : List (List ℕ)). unique_keys (pointwise nat_eq) ([] ∷ own)) lists in
+    omega (arith, same, most, sizes)
 
 pub parts_ask : (count : ℕ) (part_of : ℕ → ℕ) (trace : List Event) (trace_of : ℕ → List Event) → AreParts count part_of trace trace_of →
-    ((set : List ℕ) → has_set (asked anywhere trace) set ≡ has_set (asked_by_parts count part_of trace_of) set)
-    × (size_with (asked anywhere trace) ≡ size_with (asked_by_parts count part_of trace_of))
-parts_ask count part_of trace trace_of h = (members, same_count ([] ∷ asked anywhere trace) ([] ∷ asked_by_parts count part_of trace_of) (λ q. ap (λ b. pointwise nat_eq q [] || b) (members q)))
+    HaveTogether (asked_by_part count part_of trace_of) (asked anywhere trace)
+parts_ask count part_of trace trace_of h =
+    record {
+      members = members;
+      size = sizes;
+      few = subst (λ (n : ℕ). n ≤ sum_by size_with (asked_by_part count part_of trace_of)) (sym sizes) (few_together (asked_by_part count part_of trace_of) some);
+    }
   where
-    own : asked_by_parts count part_of trace_of ≡ flat_map (λ k. asked (words_of_part part_of k) trace) (range_with_len 0 count)
-    own = flat_numbers _ _ 0 count (λ k lt. sym (same_asked (words_of_part part_of k) trace (trace_of k) (h.agree k (omega arith))))
+    own : asked_by_part count part_of trace_of ≡ map (λ k. asked (words_of_part part_of k) trace) (range_with_len 0 count)
+    own = map_numbers (λ k. asked (words_of_part part_of k) (trace_of k)) (λ k. asked (words_of_part part_of k) trace) 0 count (λ k lt. sym (same_asked (words_of_part part_of k) trace (trace_of k) (h.agree k (omega arith))))
 
-    members : (set : List ℕ) → has_set (asked anywhere trace) set ≡ has_set (asked_by_parts count part_of trace_of) set
+    some : 0 < length (asked_by_part count part_of trace_of)
+    some = let lt = h.some 0 in let e = length-map-range_with_len (λ k. asked (words_of_part part_of k) (trace_of k)) 0 count in omega (arith, lt, e)
+
+    members : (set : List ℕ) → has_set (asked anywhere trace) set ≡ has_set (flat_map (λ (sets : List (List ℕ)). sets) (asked_by_part count part_of trace_of)) set
     members set =
         sym (spread_all (λ w. part_of (page_of w)) (range_with_len 0 count) (λ w. number_among 0 count (part_of (page_of w)) (omega arith) (let lt = h.some (page_of w) in omega arith)) set trace)
         ∙ sym (has_flat (λ k. asked (words_of_part part_of k) trace) set (range_with_len 0 count))
-        ∙ ap (λ (sets : List (List ℕ)). has_set sets set) (sym own)
+        ∙ ap (λ (sets : List (List ℕ)). has_set sets set) (sym (flat_map-map (λ (sets : List (List ℕ)). sets) (λ k. asked (words_of_part part_of k) trace) (range_with_len 0 count)))
+        ∙ ap (λ (lists : List (List (List ℕ))). has_set (flat_map (λ (sets : List (List ℕ)). sets) lists) set) (sym own)
+
+    sizes : size_with (asked anywhere trace) ≡ size_with (flat_map (λ (sets : List (List ℕ)). sets) (asked_by_part count part_of trace_of))
+    sizes = same_count ([] ∷ asked anywhere trace) ([] ∷ flat_map (λ (sets : List (List ℕ)). sets) (asked_by_part count part_of trace_of)) (λ q. ap (λ b. pointwise nat_eq q [] || b) (members q))
 
 -- ---- the table of an accepted trace
 

@@ -59,7 +59,7 @@ distinct_one set = (tt, tt)
 
 -- ---- each set once
 
-unique_members : (sets : List (List ℕ)) (q : List ℕ) → has_set (unique_keys (pointwise nat_eq) sets) q ≡ has_set sets q
+pub unique_members : (sets : List (List ℕ)) (q : List ℕ) → has_set (unique_keys (pointwise nat_eq) sets) q ≡ has_set sets q
 unique_members [] q = refl
 unique_members (x ∷ sets) q = by (has_set sets x) refl (unique_members sets q)
   where

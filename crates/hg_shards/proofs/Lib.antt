@@ -12,3 +12,5 @@ pub mod Taking
 pub mod Counting
 pub mod Tables
 pub mod Asking
+pub mod Agreement
+pub mod Cuts

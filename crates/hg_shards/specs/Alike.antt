@@ -6,6 +6,7 @@ use Rattle.hg_model.specs.declared.event.Named.{Named}
 use Rattle.hg_model.specs.declared.report.Report.{Report}
 use Rattle.hg_model.specs.History.{overlaps}
 use Rattle.hg_model.specs.Contents.{Content, events_of}
+use Rattle.hg_model.specs.Verdicts.{actor, bad_length, past_address_end}
 
 -- What an event does to a word: nothing, a read or a write by a thread, or the word is new from then on.
 pub data Touch : Type 0 where
@@ -67,3 +68,17 @@ pub record PassesBy (within : ℕ → Bool) (e : Event) : Type 0 where
 -- the reports of words of the set
 abbrev pub reports_within : (ℕ → Bool) → List Report → List Report
 reports_within within reports = filter (λ r. within (r.word / 4)) reports
+
+-- Both events are of memory and of one thread, and the second has a lawful length and end.
+pub record IsLawfulCut (e f : Event) : Type 0 where
+  pub first : is_of_memory e ≡ true
+  pub second : is_of_memory f ≡ true
+  pub thread : actor e ≡ actor f
+  pub len : bad_length f ≡ false
+  pub end : past_address_end f ≡ false
+
+-- The second event may stand in the place of the first: under the same name it is the same event, or a lawful cut of it.
+pub record MayStandFor (m n : Named) : Type 0 where
+  pub source : m.source ≡ n.source
+  pub number : m.number ≡ n.number
+  pub event : (m.event ≡ n.event) ⊎ IsLawfulCut m.event n.event

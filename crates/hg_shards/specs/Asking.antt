@@ -1,7 +1,7 @@
 -- The sets that a trace asks the table of sets for.
-use Rattle.std.specs.Prelude.{◌≡◌, ℕ, Bool, true, List, [], ◌∷◌, ◌++◌, filter, nat_eq, Option, None}
+use Rattle.std.specs.Prelude.{◌≡◌, ℕ, ◌≤◌, Bool, true, List, [], ◌∷◌, ◌++◌, filter, map, nat_eq, Option, None}
 use Rattle.std.specs.Cmp.Lexicographic.{pointwise}
-use Rattle.std.specs.List.{flat_map}
+use Rattle.std.specs.List.{flat_map, range_with_len, sum_by}
 use Rattle.std.specs.Set.{distinct_count, is_member}
 use Rattle.hg_model.specs.declared.event.Event.{Event}
 use Rattle.hg_model.specs.declared.event.Event.TheVariants.{Read, Write}
@@ -11,6 +11,7 @@ use Rattle.hg_model.specs.History.{history}
 use Rattle.hg_model.specs.Sharing.{state}
 use Rattle.hg_model.specs.Reporting.{words_of}
 use Rattle.hg_model.specs.Contents.{summary}
+use Rattle.hg_shards.specs.Pages.{words_of_part}
 use Rattle.hg_sets.specs.Interning.{Table}
 use Rattle.hg_sets.specs.declared.fault.SetFault.{SetFault}
 use Rattle.hg_detect.specs.Making.{Asks, sets_asked, sets_in}
@@ -51,3 +52,14 @@ size_with sets = distinct_count (pointwise nat_eq) ([] ∷ sets)
 abbrev pub AsksForTrace : Table → List Named → Option SetFault → Table → Type 0
 AsksForTrace first [] refused table = (refused ≡ None) × (table ≡ first)
 AsksForTrace first (n ∷ past) refused table = (before : Table) × AsksForTrace first past None before × Asks before (sets_asked (summary past) n.event) refused table
+
+-- for each part, the sets that its trace asks for, for its words
+abbrev pub asked_by_part : ℕ → (ℕ → ℕ) → (ℕ → List Event) → List (List (List ℕ))
+asked_by_part count part_of trace_of = map (λ k. asked (words_of_part part_of k) (trace_of k)) (range_with_len 0 count)
+
+-- Lists of sets have these together: those of all lists and no others. So a table that is asked for these has as many as one that is asked
+-- for all the lists, and no more than a table a list has together.
+pub record HaveTogether (lists : List (List (List ℕ))) (sets : List (List ℕ)) : Type 0 where
+  pub members : (set : List ℕ) → has_set sets set ≡ has_set (flat_map (λ own. own) lists) set
+  pub size : size_with sets ≡ size_with (flat_map (λ own. own) lists)
+  pub few : size_with sets ≤ sum_by size_with lists

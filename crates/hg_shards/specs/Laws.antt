@@ -10,14 +10,15 @@ use Rattle.hg_model.specs.Sharing.{state}
 use Rattle.hg_model.specs.Reporting.{is_reported, reports_at_last, all_reports}
 use Rattle.hg_model.specs.declared.event.Named.{Named}
 use Rattle.hg_model.specs.Contents.{Content, events_of, threads_of, summary}
-use Rattle.hg_model.specs.Verdicts.{verdict, standing_of, IsAccepted}
+use Rattle.hg_model.specs.Verdicts.{Standing, verdict, standing_of, IsAccepted}
+use Rattle.hg_model.specs.declared.verdict.Verdict.TheVariants.{Accept}
 use Rattle.hg_model.specs.Change.{after, new_reports}
 use Rattle.hg_sets.specs.Interning.{Table, first_table}
 use Rattle.hg_sets.specs.declared.fault.SetFault.TheVariants.{Full}
-use Rattle.hg_shards.specs.Asking.{AsksForTrace, anywhere, asked, has_set, size_with}
+use Rattle.hg_shards.specs.Asking.{AsksForTrace, HaveTogether, anywhere, asked, asked_by_part, size_with}
 use Rattle.hg_shards.specs.Merging.{Rises}
-use Rattle.hg_shards.specs.Pages.{AreParts, MakeTheWhole, by_part, words_of_part}
-use Rattle.hg_shards.specs.Alike.{AreAlike, AgreeWithin, AgreeByName, ContentsAgree, PassesBy, reports_within}
+use Rattle.hg_shards.specs.Pages.{AreParts, MakeTheWhole, by_part}
+use Rattle.hg_shards.specs.Alike.{AreAlike, AgreeWithin, AgreeByName, ContentsAgree, MayStandFor, PassesBy, reports_within}
 
 -- The two traces have the same segments, threads and held locks, and for each word of the set the same history, state and reports,
 -- those at the last event and all.
@@ -36,9 +37,20 @@ pub record AreSameWithin (within : ℕ → Bool) (es fs : List Event) : Type 0 w
 abbrev pub OtherWordsDoNotMatter : Type 0
 OtherWordsDoNotMatter = (within : ℕ → Bool) (es fs : List Event) → AgreeWithin within es fs → AreSameWithin within es fs
 
+-- Traces agree within a set of words as equals do, and also within each smaller set.
+pub record AgreementIsLawful : Type 0 where
+  pub itself : (within : ℕ → Bool) (es : List Event) → AgreeWithin within es es
+  pub back : (within : ℕ → Bool) (es fs : List Event) → AgreeWithin within es fs → AgreeWithin within fs es
+  pub onward : (within : ℕ → Bool) (es fs gs : List Event) → AgreeWithin within es fs → AgreeWithin within fs gs → AgreeWithin within es gs
+  pub narrower : (within less : ℕ → Bool) (es fs : List Event) → ((w : ℕ) → less w ≡ true → within w ≡ true) → AgreeWithin within es fs → AgreeWithin less es fs
+
 -- The verdict on an event needs no access: it is the same after traces that agree, whatever they do to other words.
 abbrev pub VerdictsNeedNoAccess : Type 0
 VerdictsNeedNoAccess = (within : ℕ → Bool) (ms ns : List Named) → AgreeByName within ms ns → (n : Named) → verdict (standing_of (summary ms)) n ≡ verdict (standing_of (summary ns)) n
+
+-- Where an event is accepted, so is one that may stand in its place.
+abbrev pub CutEventsAreAccepted : Type 0
+CutEventsAreAccepted = (s : Standing) (m n : Named) → MayStandFor m n → verdict s m ≡ Accept → verdict s n ≡ Accept
 
 -- Traces that agree leave contents that do.
 abbrev pub SummariesAgree : Type 0
@@ -76,15 +88,10 @@ SharesMakeTheWhole = (count : ℕ) (part_of : ℕ → ℕ) (whole : List Report)
 abbrev pub OtherWordsAskForOtherSets : Type 0
 OtherWordsAskForOtherSets = (within : ℕ → Bool) (es fs : List Event) → AgreeWithin within es fs → asked within es ≡ asked within fs
 
--- the sets that the parts ask for, part by part
-abbrev pub asked_by_parts : ℕ → (ℕ → ℕ) → (ℕ → List Event) → List (List ℕ)
-asked_by_parts count part_of trace_of = flat_map (λ k. asked (words_of_part part_of k) (trace_of k)) (range_with_len 0 count)
-
--- A trace asks for the sets that its parts ask for and no others, so its table has as many as theirs have together.
+-- A trace asks for the sets that its parts ask for and no others.
 abbrev pub PartsAskForTheSets : Type 0
 PartsAskForTheSets = (count : ℕ) (part_of : ℕ → ℕ) (trace : List Event) (trace_of : ℕ → List Event) → AreParts count part_of trace trace_of →
-    ((set : List ℕ) → has_set (asked anywhere trace) set ≡ has_set (asked_by_parts count part_of trace_of) set)
-    × (size_with (asked anywhere trace) ≡ size_with (asked_by_parts count part_of trace_of))
+    HaveTogether (asked_by_part count part_of trace_of) (asked anywhere trace)
 
 -- A table with room for `limit` sets takes an accepted trace where the sets that it asks for are no more, with the empty set. It refuses
 -- the trace's last event as full only where they are more.

@@ -1,6 +1,12 @@
 //! Laws of a trace and its parts, each the promise of a function without a body.
 
-ghost use Rattle.hg_shards.specs.Laws.{OtherWordsDoNotMatter, VerdictsNeedNoAccess, SummariesAgree, StepsAgree, PassingChangesNothing, ReportsRise, PartsMakeTheWhole, SharesMakeTheWhole, OtherWordsAskForOtherSets, PartsAskForTheSets, FullByTheSets};
+ghost use Rattle.hg_shards.specs.Laws.{AgreementIsLawful, OtherWordsDoNotMatter, VerdictsNeedNoAccess, CutEventsAreAccepted, SummariesAgree, StepsAgree, PassingChangesNothing, ReportsRise, PartsMakeTheWhole, SharesMakeTheWhole, OtherWordsAskForOtherSets, PartsAskForTheSets, FullByTheSets};
+
+/// Each trace agrees with itself within any set of words. Agreement goes both ways, from trace to trace, and down to smaller
+/// sets.
+pub fn agreement_is_lawful()
+    ensures { AgreementIsLawful }
+{}
 
 /// Two traces that do the same to the words of a set have the same segments, threads and held locks, and for each word of
 /// the set the same history, state and reports.
@@ -11,6 +17,12 @@ pub fn other_words_do_not_matter()
 /// The verdict on an event is the same after two traces that differ in what they do to other words.
 pub fn verdicts_need_no_access()
     ensures { VerdictsNeedNoAccess }
+{}
+
+/// Where an access or a block is accepted, so is any other of the same thread that has a lawful length and end, as one that is cut to
+/// the words of a part.
+pub fn cut_events_are_accepted()
+    ensures { CutEventsAreAccepted }
 {}
 
 /// Traces that do the same to the words of a set leave contents that agree on them.
