@@ -14,3 +14,4 @@ pub mod Tables
 pub mod Asking
 pub mod Agreement
 pub mod Cuts
+pub mod Leaving

@@ -136,7 +136,7 @@ stands (l ∷ lists) (suc best) r rest lt is up low high =
       high = s.high;
     }
 
-rises_at : (lists : List (List Report)) → AllByRecursion Rises lists → (j : ℕ) → j < length lists → Rises (get_or lists j [])
+pub rises_at : (lists : List (List Report)) → AllByRecursion Rises lists → (j : ℕ) → j < length lists → Rises (get_or lists j [])
 rises_at [] up j lt = absurd (omega arith)
 rises_at (l ∷ lists) up zero lt = up.0
 rises_at (l ∷ lists) up (suc j) lt = rises_at lists up.1 j (omega arith)

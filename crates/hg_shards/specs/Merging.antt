@@ -1,5 +1,6 @@
 -- Reports by event and then by word, and the reports of several lists in that order.
-use Rattle.std.specs.Prelude.{◌≡◌, ℕ, ◌<◌, Bool, true, false, ◌&&◌, ◌||◌, ◌==◌, nat_lt, List, [], ◌∷◌, length, map, slice_index_or, slice_set, Option, Some, None, fold, if◌then◌else◌}
+use Rattle.std.specs.Prelude.{◌≡◌, ℕ, ◌<◌, Bool, true, false, ◌&&◌, ◌||◌, ◌==◌, nat_lt, List, [], ◌∷◌, length, map, slice_index_or, slice_set, drop, Option, Some, None, Vec, fold, if◌then◌else◌}
+use Rattle.std.specs.Borrow.{Bor}
 use Rattle.std.specs.List.{AllByRecursion, flat_map}
 use Rattle.hg_model.specs.declared.report.Report.{Report}
 use Rattle.hg_shards.specs.declared.merge.Place.{Place}
@@ -65,3 +66,20 @@ IsNext lists (Some k) = TakesNext lists k
 -- The list that comes next, where lists have these heads and each of them rises.
 abbrev pub IsNextByHeads : List (Option Place) → Option ℕ → Type 0
 IsNextByHeads heads found = (lists : List (List Report)) → AllByRecursion Rises lists → map head_of lists ≡ heads → IsNext lists found
+
+-- what is left of lists where so many reports of each were given
+abbrev pub left : {Z : Type 0} → List ℕ → List (Vec Report Z) → List (List Report)
+left [] lists = []
+left (n ∷ given) [] = []
+left (n ∷ given) (list ∷ lists) = drop n list.items ∷ left given lists
+
+-- A merge of these lists is under way, where so many reports of each were given, and these are the heads of what is left.
+pub record IsUnderWay {Z : Type 0} (lists : List (Vec Report Z)) (given : List ℕ) (heads : List (Option Place)) : Type 0 where
+  pub counts : length given ≡ length lists
+  pub heads_are : heads ≡ map head_of (left given lists)
+  pub rise : AllByRecursion Rises (left given lists)
+
+-- What came is the next report of a merge of the lists and leaves these, or there was none.
+abbrev pub ComesNext : List (List Report) → Option (Bor Report) → List (List Report) → Type 0
+ComesNext old None new = (merged old ≡ []) × (new ≡ old)
+ComesNext old (Some r) new = merged old ≡ r.now ∷ merged new

@@ -1,10 +1,13 @@
 //! Merging reports of several lists, each of which rises.
 
-ghost use Rattle.std.specs.Prelude.{◌≡◌, ◌<◌, ◌^◌, sum};
+ghost use Rattle.std.specs.Prelude.{◌≡◌, ◌<◌, ◌^◌, sum, drop, map, IfOk};
+ghost use Rattle.std.specs.List.{AllByRecursion};
 ghost use Rattle.hg_shards.specs.Merging as spec;
-ghost use Rattle.hg_shards.specs.Merging.{IsNextByHeads, place_of, wins};
+ghost use Rattle.hg_shards.specs.Merging.{ComesNext, IsNextByHeads, Rises, head_of, place_of, wins};
 
 use hg_model::report::Report;
+use std::alloc::{AllocError, Global};
+use std::marker::Model;
 
 /// Where a report stands among others: by event, and then by word.
 #[derive(Clone, Copy, Debug, PartialEq, Eq, Drop)]
@@ -72,4 +75,69 @@ pub fn total_of(totals: &[u64]) -> u64
         total += *count;
     }
     total
+}
+
+/// Where the report at a place of a list stands, if there is one.
+fn head_at(list: &[Report], place: usize) -> Option<Place>
+    ensures { result ≡ head_of (drop place list.now) }
+{
+    if place < list.len() {
+        return Some(Place::of(&list[place]));
+    }
+    None
+}
+
+/// A merge of several lists of reports. A contract sees what is left of each list.
+#[derive(Drop)]
+pub struct Merge<'a> {
+    lists: &'a [Vec<Report>],
+    /// How many reports of each list were given.
+    given: Vec<usize>,
+    /// Where the next report of each list stands.
+    heads: Vec<Option<Place>>,
+}
+
+impl<'a> Model for Merge<'a> {
+    ghost use Rattle.std.specs.Prelude.{List};
+    ghost use Rattle.hg_model.specs.declared.report.Report.{Report};
+
+    ghost Value = { List (List Report) };
+
+    ghost use Rattle.hg_shards.specs.Merging.{IsUnderWay, left};
+
+    ghost view = { λ m. left m.given.items m.lists.now };
+
+    ghost invariant = { λ m. IsUnderWay m.lists.now m.given.items m.heads.items };
+}
+
+impl<'a> Merge<'a> {
+    /// Begins a merge of lists, each of which rises by event and then by word. It takes memory for a place in each list.
+    pub fn new(alloc: Global, lists: &'a [Vec<Report>]) -> Result<Self, AllocError>
+        requires { AllByRecursion Rises (map (λ list. list.items) lists.now) }
+        ensures { IfOk result (λ merge. merge ≡ map (λ list. list.items) lists.now) }
+    {
+        let given = vec![in alloc; 0; lists.len()]?;
+        let mut heads = Vec::new(alloc);
+        for list in lists {
+            heads.push(head_at(list, 0))?;
+        }
+        Ok(Merge { lists, given, heads })
+    }
+
+    /// The next report, by event and then by word, or None where all were given. It takes no memory.
+    pub fn next(&mut self) -> Option<&'a Report>
+        ensures { ComesNext self.old result self.new }
+    {
+        match next_of(&self.heads) {
+            None => None,
+            Some(k) => {
+                let list = &self.lists[k];
+                let place = self.given[k];
+                let report = &list[place];
+                self.given[k] = place + 1;
+                self.heads[k] = head_at(list, place + 1);
+                Some(report)
+            }
+        }
+    }
 }
