@@ -1,6 +1,6 @@
 -- The sets that a trace and its parts ask for.
-use Rattle.std.proofs.Common.{◌≡◌, ℕ, zero, suc, ◌+◌, ◌<◌, ◌≤◌, Bool, true, false, cond, ◌||◌, ◌&&◌, nat_eq, List, [], ◌∷◌, ◌++◌, length, map, filter, Option, Some, None, refl, sym, ap, ◌∙◌, subst, ⊎_elim, arith}
-use Rattle.std.proofs.lemmas.Bool.{false≢true}
+use Rattle.std.proofs.Common.{◌≡◌, ℕ, zero, suc, ◌+◌, ◌*◌, ◌/◌, ◌<◌, ◌≤◌, Bool, true, false, cond, ◌||◌, ◌&&◌, nat_eq, List, [], ◌∷◌, ◌++◌, length, map, filter, Option, Some, None, refl, sym, ap, ◌∙◌, subst, ⊎_elim, arith}
+use Rattle.std.proofs.lemmas.Bool.{false≢true, true_from_ne_false}
 use Rattle.std.proofs.lemmas.List.Concat.{length-flat_map}
 use Rattle.std.proofs.lemmas.List.Folds.{flat_map-map, list_any-append}
 use Rattle.std.proofs.lemmas.List.FromFn.{length-map-range_with_len}
@@ -15,7 +15,8 @@ use Rattle.hg_model.specs.Segments.{segments_of}
 use Rattle.hg_model.specs.History.{history}
 use Rattle.hg_model.specs.Sets.{contains}
 use Rattle.hg_model.specs.Sharing.{state}
-use Rattle.hg_model.specs.Reporting.{words_of}
+use Rattle.hg_model.specs.declared.report.Report.{Report}
+use Rattle.hg_model.specs.Reporting.{is_reported, reports_at_last, all_reports}
 use Rattle.hg_model.specs.Contents.{events_of, summary}
 use Rattle.hg_model.specs.Verdicts.{IsAccepted}
 use Rattle.hg_model.specs.Change.{word_after}
@@ -24,21 +25,22 @@ use Rattle.hg_model.proofs.Words.{HistoryFits, history_fits, word_law}
 use Rattle.hg_sets.specs.Interning.{Table, first_table}
 use Rattle.hg_sets.specs.declared.fault.SetFault.TheVariants.{Full}
 use Rattle.hg_detect.specs.Making.{sets_asked, sets_in}
-use Rattle.hg_shards.specs.Alike.{touch, AreAlike, AgreeWithin}
+use Rattle.hg_shards.specs.Alike.{Untouched, touch, AreAlike, AgreeWithin, IsOwn, reports_within}
 use Rattle.hg_shards.specs.Pages.{page_of, words_of_part, AreParts}
-use Rattle.hg_shards.specs.Asking.{accessed, sets_of, asked_at_last, asked, anywhere, has_set, size_with, asked_by_part, AsksForTrace, HaveTogether}
+use Rattle.hg_shards.specs.Asking.{accessed, sets_of, asked_at_last, asked, anywhere, has_set, size_with, asked_by_part, AsksForTrace, HasSets, HaveTogether}
 use Rattle.hg_shards.proofs.Lives.{same_touch, same_state}
-use Rattle.hg_shards.proofs.Sets.{from_filter, rising_same, contains_filter}
-use Rattle.hg_shards.proofs.Reports.{accessed_rise, accessed_words, is_access}
+use Rattle.hg_shards.proofs.Sets.{from_filter, rising_same, contains_filter, each_member}
+use Rattle.hg_shards.proofs.Reports.{accessed_rise, accessed_words, is_access, reports_by, report_by, each_filter}
+use Rattle.hg_shards.proofs.Order.{each_both}
 use Rattle.hg_shards.proofs.Counting.{same_count, has_both, unique_members}
-use Rattle.hg_shards.proofs.Tables.{Has, first_has, asks_none, asks_full, size_is}
+use Rattle.hg_shards.proofs.Tables.{first_has, asks_none, asks_full, size_is}
 use Rattle.hg_shards.proofs.Merging.{among}
 use Rattle.hg_shards.proofs.Parts.{number_among, map_numbers}
 
 -- ---- other words do not matter
 
 module _ (within : ℕ → Bool) where
-  same_words : (e f : Event) → AreAlike within e f → filter within (accessed e) ≡ filter within (accessed f)
+  pub same_words : (e f : Event) → AreAlike within e f → filter within (accessed e) ≡ filter within (accessed f)
   same_words e f alike =
       rising_same 0 (filter within (accessed e)) (filter within (accessed f)) (from_filter within 0 (accessed e) (accessed_rise e)) (from_filter within 0 (accessed f) (accessed_rise f))
       (λ w.
@@ -50,7 +52,7 @@ module _ (within : ℕ → Bool) where
       by true same = same refl
       by false same = refl
 
-  flat_passing : (f g : ℕ → List (List ℕ)) → ((w : ℕ) → within w ≡ true → f w ≡ g w) → (ws : List ℕ) → flat_map f (filter within ws) ≡ flat_map g (filter within ws)
+  pub flat_passing : (f g : ℕ → List (List ℕ)) → ((w : ℕ) → within w ≡ true → f w ≡ g w) → (ws : List ℕ) → flat_map f (filter within ws) ≡ flat_map g (filter within ws)
   flat_passing f g same [] = refl
   flat_passing f g same (w ∷ ws) =
       elim (within w) as (λ b. within w ≡ b → flat_map f (cond b (w ∷ filter within ws) (filter within ws)) ≡ flat_map g (cond b (w ∷ filter within ws) (filter within ws))) [
@@ -204,17 +206,17 @@ asked_by_words trace (Read a) = refl
 asked_by_words trace (Write a) = refl
 asked_by_words trace e = refl
 
-asked_is : (n : Named) (past : List Named) → IsAccepted (n ∷ past) → sets_asked (summary past) n.event ≡ asked_at_last anywhere (events_of (n ∷ past))
+pub asked_is : (n : Named) (past : List Named) → IsAccepted (n ∷ past) → sets_asked (summary past) n.event ≡ asked_at_last anywhere (events_of (n ∷ past))
 asked_is n past h =
     asked_by_words past n.event
     ∙ flat_same (λ w. sets_in (word_after (summary past) n.event w)) (sets_of (n.event ∷ events_of past))
     (λ w. ap sets_in (sym (word_law past n.event w (passes past n h.1) (history_fits past h.0 w)))) (accessed n.event)
     ∙ ap (flat_map (sets_of (n.event ∷ events_of past))) (sym (filter_all (accessed n.event)))
 
-has_trace : (limit : ℕ) → 0 < limit → (trace : List Named) (table : Table) → IsAccepted trace → AsksForTrace (first_table limit) trace None table → Has limit (asked anywhere (events_of trace)) table
-has_trace limit some [] table h a = subst (Has limit []) (sym a.1) (first_has limit some)
+has_trace : (limit : ℕ) → 0 < limit → (trace : List Named) (table : Table) → IsAccepted trace → AsksForTrace (first_table limit) trace None table → HasSets limit (asked anywhere (events_of trace)) table
+has_trace limit some [] table h a = subst (HasSets limit []) (sym a.1) (first_has limit some)
 has_trace limit some (n ∷ past) table h a =
-    subst (λ (sets : List (List ℕ)). Has limit (asked anywhere (events_of past) ++ sets) table) (asked_is n past h)
+    subst (λ (sets : List (List ℕ)). HasSets limit (asked anywhere (events_of past) ++ sets) table) (asked_is n past h)
     (asks_none limit (asked anywhere (events_of past)) (sets_asked (summary past) n.event) a.0 table (has_trace limit some past a.0 h.0 a.1) a.2)
 
 full_trace : (limit : ℕ) → 0 < limit → (trace : List Named) (table : Table) → IsAccepted trace → AsksForTrace (first_table limit) trace (Some Full) table → limit < size_with (asked anywhere (events_of trace))
@@ -230,3 +232,35 @@ full_lem limit trace table some h = (
   λ a. let has = has_trace limit some trace table h a in (size_is limit (asked anywhere (events_of trace)) table has, has.within),
   λ a. full_trace limit some trace table h a,
 )
+
+-- ---- a trace of a part's own
+
+kept : {X : Type 0} (p : X → Bool) (xs : List X) → AllByRecursion (λ x. p x ≡ true) xs → filter p xs ≡ xs
+kept p [] h = refl
+kept p (x ∷ xs) h = ap (λ b. cond b (x ∷ filter p xs) (filter p xs)) h.0 ∙ ap (λ more. x ∷ more) (kept p xs h.1)
+
+module _ (within : ℕ → Bool) where
+  own_words : (e : Event) → ((w : ℕ) → within w ≡ false → touch w e ≡ Untouched) → AllByRecursion (λ w. within w ≡ true) (accessed e)
+  own_words e own = each_member (λ w. within w ≡ true) (accessed e) (λ w has. true_from_ne_false (within w) (λ outside. false≢true (sym (ap is_access (own w outside)) ∙ sym (accessed_words e w) ∙ has)))
+
+  own_asked : (trace : List Event) → IsOwn within trace → asked within trace ≡ asked anywhere trace
+  own_asked [] own = refl
+  own_asked (e ∷ past) own =
+      λ i. own_asked past own.1 i ++ flat_map (sets_of (e ∷ past)) ((kept within (accessed e) (own_words e own.0) ∙ sym (filter_all (accessed e))) i)
+
+  each_report : (f : ℕ → Report) → ((w : ℕ) → (f w).word ≡ 4 * w) → (ws : List ℕ) → AllByRecursion (λ w. within w ≡ true) ws → AllByRecursion (λ (r : Report). within (r.word / 4) ≡ true) (map f ws)
+  each_report f word [] h = tt
+  each_report f word (w ∷ ws) h = ((let e : (f w).word / 4 ≡ w = (let is = word w in omega arith) in ap within e ∙ h.0), each_report f word ws h.1)
+
+  own_last : (trace : List Event) → IsOwn within trace → AllByRecursion (λ (r : Report). within (r.word / 4) ≡ true) (reports_at_last trace)
+  own_last [] own = tt
+  own_last (e ∷ past) own =
+      subst (AllByRecursion (λ (r : Report). within (r.word / 4) ≡ true)) (sym (reports_by e past))
+      (each_report (λ w. report_by (e ∷ past) (touch w e) w) (λ w. refl) (filter (is_reported (e ∷ past)) (accessed e)) (each_filter (λ w. within w ≡ true) (is_reported (e ∷ past)) (accessed e) (own_words e own.0)))
+
+  own_reports : (trace : List Event) → IsOwn within trace → AllByRecursion (λ (r : Report). within (r.word / 4) ≡ true) (all_reports trace)
+  own_reports [] own = tt
+  own_reports (e ∷ past) own = each_both (λ (r : Report). within (r.word / 4) ≡ true) (all_reports past) (reports_at_last (e ∷ past)) (own_reports past own.1) (own_last (e ∷ past) own)
+
+  pub own_lem : (trace : List Event) → IsOwn within trace → (reports_within within (all_reports trace) ≡ all_reports trace) × (asked within trace ≡ asked anywhere trace)
+  own_lem trace own = (kept (λ (r : Report). within (r.word / 4)) (all_reports trace) (own_reports trace own), own_asked trace own)

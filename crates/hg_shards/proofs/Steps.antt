@@ -1,7 +1,7 @@
 -- One event after contents that agree.
 use Rattle.std.proofs.Common.{◌≡◌, ℕ, ◌+◌, ◌*◌, ◌/◌, Bool, true, false, cond, ◌&&◌, not, List, [], ◌∷◌, ◌++◌, map, filter, refl, sym, ap, ◌∙◌, ⊎_elim, append-nil}
 use Rattle.std.proofs.lemmas.Bool.{false≢true}
-use Rattle.std.specs.List.{AllByRecursion}
+use Rattle.std.specs.List.{AllByRecursion, flat_map}
 use Rattle.hg_model.specs.declared.event.Event.{Event}
 use Rattle.hg_model.specs.declared.event.Event.TheVariants.{Fork, Join, Lock, RdLock, Unlock, Read, Write, Alloc, Free}
 use Rattle.hg_model.specs.declared.event.Named.{Named}
@@ -19,7 +19,9 @@ use Rattle.hg_model.specs.Change.{touched, threads_after, locks_of, word_after, 
 use Rattle.hg_model.proofs.Reported.{words_lem}
 use Rattle.hg_shards.specs.Asking.{accessed}
 use Rattle.hg_shards.specs.Alike.{Touch, Untouched, ReadBy, WrittenBy, Renewed, touch, is_of_memory, DoTheSame, AreAlike, ContentsAgree, PassesBy, reports_within}
-use Rattle.hg_shards.specs.Laws.{with_one_more}
+use Rattle.hg_shards.specs.Laws.{StepAgrees, with_one_more}
+use Rattle.hg_shards.proofs.Asking.{same_words, flat_passing}
+use Rattle.hg_detect.specs.Making.{sets_in}
 use Rattle.hg_shards.proofs.Rules.{opens_none, opened_alike}
 use Rattle.hg_shards.proofs.Lives.{same_touch}
 use Rattle.hg_shards.proofs.Sets.{each_member, has_first}
@@ -89,17 +91,21 @@ module _ (within : ℕ → Bool) where
       (λ w inside i. record { event = h.events i + 1; write = writes (same_touch within e f alike w inside i); thread = thread_by (same_touch within e f alike w inside i); word = 4 * w; threads = threads_in (words_alike c d e f h alike w inside i) })
       ∙ sym (told_new d f)
 
-  pub steps_agree_lem : (c d : Content) (m n : Named) → ContentsAgree within c d → AreAlike within m.event n.event →
-      ContentsAgree within (after c m) (after d n) × (reports_within within (new_reports c m.event) ≡ reports_within within (new_reports d n.event))
-  steps_agree_lem c d m n h alike = (
-    record {
-      events = ap (λ k. k + 1) h.events;
-      segments = (λ i. h.segments i ++ opened (h.segments i) m.event) ∙ ap (λ new. d.segments ++ new) (opened_alike within d.segments m.event n.event alike);
-      threads = ap (threads_after m.event) h.threads ∙ threads_alike m.event n.event d.threads alike;
-      words = words_alike c d m.event n.event h alike;
-    },
-    same_new c d m.event n.event h alike,
-  )
+  pub steps_agree_lem : (c d : Content) (m n : Named) → ContentsAgree within c d → AreAlike within m.event n.event → StepAgrees within c d m n
+  steps_agree_lem c d m n h alike =
+      record {
+        content =
+            record {
+              events = ap (λ k. k + 1) h.events;
+              segments = (λ i. h.segments i ++ opened (h.segments i) m.event) ∙ ap (λ new. d.segments ++ new) (opened_alike within d.segments m.event n.event alike);
+              threads = ap (threads_after m.event) h.threads ∙ threads_alike m.event n.event d.threads alike;
+              words = words_alike c d m.event n.event h alike;
+            };
+        reports = same_new c d m.event n.event h alike;
+        asked =
+            ap (flat_map (λ w. sets_in (word_after c m.event w))) (same_words within m.event n.event alike)
+            ∙ flat_passing within (λ w. sets_in (word_after c m.event w)) (λ w. sets_in (word_after d n.event w)) (λ w inside. ap sets_in (words_alike c d m.event n.event h alike w inside)) (accessed n.event);
+      }
 
   none_told : (c : Content) (e : Event) → PassesBy within e → (w : ℕ) → contains (told within (becomes_racy c e) e) w ≡ true → ⊥
   none_told c e h w has = by (within w) refl (sym (in_told within (becomes_racy c e) e w) ∙ has)

@@ -1,5 +1,6 @@
 -- Traces that do the same to the words of a set, whatever they do to other words.
 use Rattle.std.specs.Prelude.{◌≡◌, ◌⊎◌, ℕ, ◌/◌, Bool, true, false, List, [], ◌∷◌, filter, map, if◌then◌else◌}
+use Rattle.std.specs.List.{AllByRecursion}
 use Rattle.hg_model.specs.declared.event.Event.{Event}
 use Rattle.hg_model.specs.declared.event.Event.TheVariants.{Read, Write, Alloc, Free}
 use Rattle.hg_model.specs.declared.event.Named.{Named}
@@ -64,6 +65,10 @@ pub record ContentsAgree (within : ℕ → Bool) (c d : Content) : Type 0 where
 pub record PassesBy (within : ℕ → Bool) (e : Event) : Type 0 where
   pub memory : is_of_memory e ≡ true
   pub nothing : (w : ℕ) → within w ≡ true → touch w e ≡ Untouched
+
+-- No event of the trace touches a word that is not of the set.
+abbrev pub IsOwn : (ℕ → Bool) → List Event → Type 0
+IsOwn within trace = AllByRecursion (λ e. (w : ℕ) → within w ≡ false → touch w e ≡ Untouched) trace
 
 -- the reports of words of the set
 abbrev pub reports_within : (ℕ → Bool) → List Report → List Report

@@ -1,7 +1,7 @@
 -- The sets that a trace asks the table of sets for.
-use Rattle.std.specs.Prelude.{◌≡◌, ℕ, ◌≤◌, Bool, true, List, [], ◌∷◌, ◌++◌, filter, map, nat_eq, Option, None}
+use Rattle.std.specs.Prelude.{◌≡◌, ℕ, ◌<◌, ◌≤◌, Bool, true, List, [], ◌∷◌, ◌++◌, length, filter, map, nat_eq, Option, Some, None}
 use Rattle.std.specs.Cmp.Lexicographic.{pointwise}
-use Rattle.std.specs.List.{flat_map, range_with_len, sum_by}
+use Rattle.std.specs.List.{IsDistinct, flat_map, range_with_len, sum_by}
 use Rattle.std.specs.Set.{distinct_count, is_member}
 use Rattle.hg_model.specs.declared.event.Event.{Event}
 use Rattle.hg_model.specs.declared.event.Event.TheVariants.{Read, Write}
@@ -10,10 +10,12 @@ use Rattle.hg_model.specs.Segments.{segments_of}
 use Rattle.hg_model.specs.History.{history}
 use Rattle.hg_model.specs.Sharing.{state}
 use Rattle.hg_model.specs.Reporting.{words_of}
-use Rattle.hg_model.specs.Contents.{summary}
+use Rattle.hg_model.specs.Contents.{Content, summary}
+use Rattle.hg_model.specs.Change.{word_after}
 use Rattle.hg_shards.specs.Pages.{words_of_part}
 use Rattle.hg_sets.specs.Interning.{Table}
 use Rattle.hg_sets.specs.declared.fault.SetFault.{SetFault}
+use Rattle.hg_sets.specs.declared.fault.SetFault.TheVariants.{Full}
 use Rattle.hg_detect.specs.Making.{Asks, sets_asked, sets_in}
 
 -- the words that an event accesses, rising
@@ -36,6 +38,10 @@ abbrev pub asked : (ℕ → Bool) → List Event → List (List ℕ)
 asked within [] = []
 asked within (e ∷ past) = asked within past ++ asked_at_last within (e ∷ past)
 
+-- what an event asks for after a content, for its words of the set
+abbrev pub asked_after : (ℕ → Bool) → Content → Event → List (List ℕ)
+asked_after within c e = flat_map (λ w. sets_in (word_after c e w)) (filter within (accessed e))
+
 -- every word
 abbrev pub anywhere : ℕ → Bool
 anywhere w = true
@@ -47,6 +53,19 @@ has_set sets set = is_member (pointwise nat_eq) sets set
 -- how many sets a table has that was asked for these: each of them once, and the empty set
 abbrev pub size_with : List (List ℕ) → ℕ
 size_with sets = distinct_count (pointwise nat_eq) ([] ∷ sets)
+
+-- The table has room for `limit` sets. It has those that it was asked for, each once, and the empty set.
+pub record HasSets (limit : ℕ) (sets : List (List ℕ)) (t : Table) : Type 0 where
+  pub limit_is : t.limit ≡ limit
+  pub within : length t.sets ≤ limit
+  pub distinct : IsDistinct (pointwise nat_eq) t.sets
+  pub members : (set : List ℕ) → has_set t.sets set ≡ has_set ([] ∷ sets) set
+
+-- A table that was asked for some sets is asked for more. With these they have room, and each is found or added, or they have none, and
+-- the table refuses one of them as full.
+pub record AnswersBySets (limit : ℕ) (sets more : List (List ℕ)) (t : Table) : Type 0 where
+  pub room : size_with (sets ++ more) ≤ limit → (new : Table) × Asks t more None new × HasSets limit (sets ++ more) new
+  pub none : limit < size_with (sets ++ more) → (new : Table) × Asks t more (Some Full) new
 
 -- The table was asked for the sets of each event of a trace in turn, and refused none, but maybe one of the last event's.
 abbrev pub AsksForTrace : Table → List Named → Option SetFault → Table → Type 0

@@ -1,5 +1,5 @@
 -- The laws of a trace and its parts, which empty public functions promise.
-use Rattle.std.specs.Prelude.{◌≡◌, ℕ, ◌+◌, ◌<◌, ◌≤◌, Bool, true, List, [], length, Option, Some, None}
+use Rattle.std.specs.Prelude.{◌≡◌, ℕ, ◌+◌, ◌<◌, ◌≤◌, Bool, true, List, [], ◌∷◌, length, Option, Some, None}
 use Rattle.std.specs.List.{flat_map, range_with_len}
 use Rattle.hg_model.specs.declared.event.Event.{Event}
 use Rattle.hg_model.specs.declared.report.Report.{Report}
@@ -15,10 +15,11 @@ use Rattle.hg_model.specs.declared.verdict.Verdict.TheVariants.{Accept}
 use Rattle.hg_model.specs.Change.{after, new_reports}
 use Rattle.hg_sets.specs.Interning.{Table, first_table}
 use Rattle.hg_sets.specs.declared.fault.SetFault.TheVariants.{Full}
-use Rattle.hg_shards.specs.Asking.{AsksForTrace, HaveTogether, anywhere, asked, asked_by_part, size_with}
+use Rattle.hg_detect.specs.Making.{sets_asked}
+use Rattle.hg_shards.specs.Asking.{AnswersBySets, AsksForTrace, HasSets, HaveTogether, anywhere, asked, asked_after, asked_at_last, asked_by_part, size_with}
 use Rattle.hg_shards.specs.Merging.{Rises}
 use Rattle.hg_shards.specs.Pages.{AreParts, MakeTheWhole, by_part}
-use Rattle.hg_shards.specs.Alike.{AreAlike, AgreeWithin, AgreeByName, ContentsAgree, MayStandFor, PassesBy, reports_within}
+use Rattle.hg_shards.specs.Alike.{AreAlike, AgreeWithin, AgreeByName, ContentsAgree, IsOwn, MayStandFor, PassesBy, reports_within}
 
 -- The two traces have the same segments, threads and held locks, and for each word of the set the same history, state and reports,
 -- those at the last event and all.
@@ -56,10 +57,15 @@ CutEventsAreAccepted = (s : Standing) (m n : Named) → MayStandFor m n → verd
 abbrev pub SummariesAgree : Type 0
 SummariesAgree = (within : ℕ → Bool) (ms ns : List Named) → AgreeByName within ms ns → ContentsAgree within (summary ms) (summary ns)
 
--- Contents that agree still do after alike events, and these make the same reports within the set.
+-- Contents that agree still do after alike events, and these make the same reports within the set, and ask for the same sets.
+pub record StepAgrees (within : ℕ → Bool) (c d : Content) (m n : Named) : Type 0 where
+  pub content : ContentsAgree within (after c m) (after d n)
+  pub reports : reports_within within (new_reports c m.event) ≡ reports_within within (new_reports d n.event)
+  pub asked : asked_after within c m.event ≡ asked_after within d n.event
+
+-- so for any two contents and events
 abbrev pub StepsAgree : Type 0
-StepsAgree = (within : ℕ → Bool) (c d : Content) (m n : Named) → ContentsAgree within c d → AreAlike within m.event n.event →
-    ContentsAgree within (after c m) (after d n) × (reports_within within (new_reports c m.event) ≡ reports_within within (new_reports d n.event))
+StepsAgree = (within : ℕ → Bool) (c d : Content) (m n : Named) → ContentsAgree within c d → AreAlike within m.event n.event → StepAgrees within c d m n
 
 -- the content with one event more in its count, and nothing else changed
 abbrev pub with_one_more : Content → Content
@@ -99,3 +105,17 @@ abbrev pub FullByTheSets : Type 0
 FullByTheSets = (limit : ℕ) (trace : List Named) (table : Table) → 0 < limit → IsAccepted trace →
     (AsksForTrace (first_table limit) trace None table → (length table.sets ≡ size_with (asked anywhere (events_of trace))) × (length table.sets ≤ limit))
     × (AsksForTrace (first_table limit) trace (Some Full) table → limit < size_with (asked anywhere (events_of trace)))
+
+-- An accepted event asks for the sets that its words have after it.
+abbrev pub SetsAreOfTheWords : Type 0
+SetsAreOfTheWords = (n : Named) (past : List Named) → IsAccepted (n ∷ past) → sets_asked (summary past) n.event ≡ asked_at_last anywhere (events_of (n ∷ past))
+
+-- The first table has the empty set alone, and each table answers by the sets that it was asked for.
+abbrev pub TablesAnswerBySets : Type 0
+TablesAnswerBySets = (limit : ℕ) → 0 < limit →
+    HasSets limit [] (first_table limit) × ((sets more : List (List ℕ)) (t : Table) → HasSets limit sets t → AnswersBySets limit sets more t)
+
+-- A trace that touches no other words has no reports of others, and asks for no sets of others.
+abbrev pub OwnTracesStayWithin : Type 0
+OwnTracesStayWithin = (within : ℕ → Bool) (trace : List Event) → IsOwn within trace →
+    (reports_within within (all_reports trace) ≡ all_reports trace) × (asked within trace ≡ asked anywhere trace)

@@ -1,6 +1,6 @@
 //! Laws of a trace and its parts, each the promise of a function without a body.
 
-ghost use Rattle.hg_shards.specs.Laws.{AgreementIsLawful, OtherWordsDoNotMatter, VerdictsNeedNoAccess, CutEventsAreAccepted, SummariesAgree, StepsAgree, PassingChangesNothing, ReportsRise, PartsMakeTheWhole, SharesMakeTheWhole, OtherWordsAskForOtherSets, PartsAskForTheSets, FullByTheSets};
+ghost use Rattle.hg_shards.specs.Laws.{AgreementIsLawful, OtherWordsDoNotMatter, VerdictsNeedNoAccess, CutEventsAreAccepted, SummariesAgree, StepsAgree, PassingChangesNothing, ReportsRise, PartsMakeTheWhole, SharesMakeTheWhole, OtherWordsAskForOtherSets, PartsAskForTheSets, FullByTheSets, SetsAreOfTheWords, TablesAnswerBySets, OwnTracesStayWithin};
 
 /// Each trace agrees with itself within any set of words. Agreement goes both ways, from trace to trace, and down to smaller
 /// sets.
@@ -30,8 +30,8 @@ pub fn summaries_agree()
     ensures { SummariesAgree }
 {}
 
-/// Contents that agree on the words of a set still do after events that do the same to them, and the reports of these words
-/// are the same.
+/// Contents that agree on the words of a set still do after events that do the same to them. The reports of these words are the
+/// same, and the sets that are asked for.
 pub fn steps_agree()
     ensures { StepsAgree }
 {}
@@ -71,4 +71,20 @@ pub fn parts_ask_for_the_sets()
 /// empty set, are more than the table has room for.
 pub fn full_by_the_sets()
     ensures { FullByTheSets }
+{}
+
+/// An accepted event asks for the sets of threads and locks that its words have after it.
+pub fn sets_are_of_the_words()
+    ensures { SetsAreOfTheWords }
+{}
+
+/// A table that is asked for more sets takes them all where all that it was asked for, with the empty set, are no more than it has
+/// room for. Else it refuses one of them as full.
+pub fn tables_answer_by_sets()
+    ensures { TablesAnswerBySets }
+{}
+
+/// A trace that touches the words of a set alone has reports of these words alone, and asks for their sets alone.
+pub fn own_traces_stay_within()
+    ensures { OwnTracesStayWithin }
 {}
