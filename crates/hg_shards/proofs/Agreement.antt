@@ -1,5 +1,5 @@
 -- Agreement of traces is lawful.
-use Rattle.std.proofs.Common.{◌≡◌, ◌⊎◌, ℕ, Bool, true, List, [], ◌∷◌, refl, sym, ◌∙◌, subst, inl, inr, ⊎_elim}
+use Rattle.std.proofs.Common.{◌≡◌, ℕ, Bool, true, List, [], ◌∷◌, refl, sym, ◌∙◌, subst, inl, inr, ⊎_elim}
 use Rattle.hg_model.specs.declared.event.Event.{Event}
 use Rattle.hg_shards.specs.Alike.{AreAlike, AgreeWithin, DoTheSame}
 use Rattle.hg_shards.specs.Laws.{AgreementIsLawful}
@@ -23,10 +23,10 @@ module _ (within : ℕ → Bool) where
       ⊎_elim
       (λ (same : e ≡ f). subst (λ (x : Event). AreAlike within x g) (sym same) k)
       (λ (d : DoTheSame within e f).
-          ⊎_elim
-          (λ (same : f ≡ g). subst (AreAlike within e) same h)
-          (λ (c : DoTheSame within f g). inr (record { first = d.first; second = c.second; touches = λ w inside. d.touches w inside ∙ c.touches w inside }))
-          k)
+      ⊎_elim
+      (λ (same : f ≡ g). subst (AreAlike within e) same h)
+      (λ (c : DoTheSame within f g). inr (record { first = d.first; second = c.second; touches = λ w inside. d.touches w inside ∙ c.touches w inside }))
+      k)
       h
 
   onward : (es fs gs : List Event) → AgreeWithin within es fs → AgreeWithin within fs gs → AgreeWithin within es gs
@@ -40,9 +40,10 @@ module _ (within : ℕ → Bool) where
   narrower less [] [] smaller h = tt
   narrower less [] (f ∷ fs) smaller h = absurd h
   narrower less (e ∷ es) [] smaller h = absurd h
-  narrower less (e ∷ es) (f ∷ fs) smaller h =
-      (⊎_elim (λ (same : e ≡ f). inl same) (λ (d : DoTheSame within e f). inr (record { first = d.first; second = d.second; touches = λ w inside. d.touches w (smaller w inside) })) h.0,
-      narrower less es fs smaller h.1)
+  narrower less (e ∷ es) (f ∷ fs) smaller h = (
+    ⊎_elim (λ (same : e ≡ f). inl same) (λ (d : DoTheSame within e f). inr (record { first = d.first; second = d.second; touches = λ w inside. d.touches w (smaller w inside) })) h.0,
+    narrower less es fs smaller h.1,
+  )
 
 pub agreement_is_lawful_lem : AgreementIsLawful
 agreement_is_lawful_lem = record { itself = itself; back = back; onward = onward; narrower = narrower }

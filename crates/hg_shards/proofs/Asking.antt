@@ -1,5 +1,5 @@
 -- The sets that a trace and its parts ask for.
-use Rattle.std.proofs.Common.{◌≡◌, ℕ, zero, suc, ◌+◌, ◌*◌, ◌/◌, ◌<◌, ◌≤◌, Bool, true, false, cond, ◌||◌, ◌&&◌, nat_eq, List, [], ◌∷◌, ◌++◌, length, map, filter, Option, Some, None, refl, sym, ap, ◌∙◌, subst, ⊎_elim, arith}
+use Rattle.std.proofs.Common.{◌≡◌, ℕ, ◌*◌, ◌/◌, ◌<◌, ◌≤◌, Bool, true, false, cond, ◌||◌, ◌&&◌, nat_eq, List, [], ◌∷◌, ◌++◌, length, map, filter, Some, None, refl, sym, ap, ◌∙◌, subst, arith}
 use Rattle.std.proofs.lemmas.Bool.{false≢true, true_from_ne_false}
 use Rattle.std.proofs.lemmas.List.Concat.{length-flat_map}
 use Rattle.std.proofs.lemmas.List.Folds.{flat_map-map, list_any-append}
@@ -11,23 +11,19 @@ use Rattle.std.specs.List.{AllByRecursion, flat_map, list_any, range_with_len, s
 use Rattle.hg_model.specs.declared.event.Event.{Event}
 use Rattle.hg_model.specs.declared.event.Event.TheVariants.{Read, Write}
 use Rattle.hg_model.specs.declared.event.Named.{Named}
-use Rattle.hg_model.specs.Segments.{segments_of}
-use Rattle.hg_model.specs.History.{history}
-use Rattle.hg_model.specs.Sets.{contains}
-use Rattle.hg_model.specs.Sharing.{state}
 use Rattle.hg_model.specs.declared.report.Report.{Report}
 use Rattle.hg_model.specs.Reporting.{is_reported, reports_at_last, all_reports}
 use Rattle.hg_model.specs.Contents.{events_of, summary}
 use Rattle.hg_model.specs.Verdicts.{IsAccepted}
 use Rattle.hg_model.specs.Change.{word_after}
-use Rattle.hg_model.proofs.Accepted.{Passes, passes}
-use Rattle.hg_model.proofs.Words.{HistoryFits, history_fits, word_law}
+use Rattle.hg_model.proofs.Accepted.{passes}
+use Rattle.hg_model.proofs.Words.{history_fits, word_law}
 use Rattle.hg_sets.specs.Interning.{Table, first_table}
 use Rattle.hg_sets.specs.declared.fault.SetFault.TheVariants.{Full}
 use Rattle.hg_detect.specs.Making.{sets_asked, sets_in}
 use Rattle.hg_shards.specs.Alike.{Untouched, touch, AreAlike, AgreeWithin, IsOwn, reports_within}
-use Rattle.hg_shards.specs.Pages.{page_of, words_of_part, AreParts}
-use Rattle.hg_shards.specs.Asking.{accessed, sets_of, asked_at_last, asked, anywhere, has_set, size_with, asked_by_part, AsksForTrace, HasSets, HaveTogether}
+use Rattle.hg_shards.specs.Parts.{words_of_part, AreParts}
+use Rattle.hg_shards.specs.Asking.{accessed, sets_of, asked_at_last, asked, anywhere, has_set, size_with, sets_by_part, AsksForTrace, HasSets, HaveTogether}
 use Rattle.hg_shards.proofs.Lives.{same_touch, same_state}
 use Rattle.hg_shards.proofs.Sets.{from_filter, rising_same, contains_filter, each_member}
 use Rattle.hg_shards.proofs.Reports.{accessed_rise, accessed_words, is_access, reports_by, report_by, each_filter}
@@ -44,9 +40,9 @@ module _ (within : ℕ → Bool) where
   same_words e f alike =
       rising_same 0 (filter within (accessed e)) (filter within (accessed f)) (from_filter within 0 (accessed e) (accessed_rise e)) (from_filter within 0 (accessed f) (accessed_rise f))
       (λ w.
-          contains_filter within (accessed e) w ∙ ap (λ b. within w && b) (accessed_words e w)
-          ∙ by (within w) (λ inside. ap is_access (same_touch within e f alike w inside))
-          ∙ sym (contains_filter within (accessed f) w ∙ ap (λ b. within w && b) (accessed_words f w)))
+      contains_filter within (accessed e) w ∙ ap (λ b. within w && b) (accessed_words e w)
+      ∙ by (within w) (λ inside. ap is_access (same_touch within e f alike w inside))
+      ∙ sym (contains_filter within (accessed f) w ∙ ap (λ b. within w && b) (accessed_words f w)))
     where
       by : {x y : Bool} (b : Bool) → (b ≡ true → x ≡ y) → (b && x) ≡ (b && y)
       by true same = same refl
@@ -167,29 +163,29 @@ few_together lists some =
     omega (arith, same, most, sizes)
 
 pub parts_ask : (count : ℕ) (part_of : ℕ → ℕ) (trace : List Event) (trace_of : ℕ → List Event) → AreParts count part_of trace trace_of →
-    HaveTogether (asked_by_part count part_of trace_of) (asked anywhere trace)
+    HaveTogether (sets_by_part count part_of trace_of) (asked anywhere trace)
 parts_ask count part_of trace trace_of h =
     record {
       members = members;
       size = sizes;
-      few = subst (λ (n : ℕ). n ≤ sum_by size_with (asked_by_part count part_of trace_of)) (sym sizes) (few_together (asked_by_part count part_of trace_of) some);
+      few = subst (λ (n : ℕ). n ≤ sum_by size_with (sets_by_part count part_of trace_of)) (sym sizes) (few_together (sets_by_part count part_of trace_of) some);
     }
   where
-    own : asked_by_part count part_of trace_of ≡ map (λ k. asked (words_of_part part_of k) trace) (range_with_len 0 count)
+    own : sets_by_part count part_of trace_of ≡ map (λ k. asked (words_of_part part_of k) trace) (range_with_len 0 count)
     own = map_numbers (λ k. asked (words_of_part part_of k) (trace_of k)) (λ k. asked (words_of_part part_of k) trace) 0 count (λ k lt. sym (same_asked (words_of_part part_of k) trace (trace_of k) (h.agree k (omega arith))))
 
-    some : 0 < length (asked_by_part count part_of trace_of)
+    some : 0 < length (sets_by_part count part_of trace_of)
     some = let lt = h.some 0 in let e = length-map-range_with_len (λ k. asked (words_of_part part_of k) (trace_of k)) 0 count in omega (arith, lt, e)
 
-    members : (set : List ℕ) → has_set (asked anywhere trace) set ≡ has_set (flat_map (λ (sets : List (List ℕ)). sets) (asked_by_part count part_of trace_of)) set
+    members : (set : List ℕ) → has_set (asked anywhere trace) set ≡ has_set (flat_map (λ (sets : List (List ℕ)). sets) (sets_by_part count part_of trace_of)) set
     members set =
-        sym (spread_all (λ w. part_of (page_of w)) (range_with_len 0 count) (λ w. number_among 0 count (part_of (page_of w)) (omega arith) (let lt = h.some (page_of w) in omega arith)) set trace)
+        sym (spread_all part_of (range_with_len 0 count) (λ w. number_among 0 count (part_of w) (omega arith) (let lt = h.some w in omega arith)) set trace)
         ∙ sym (has_flat (λ k. asked (words_of_part part_of k) trace) set (range_with_len 0 count))
         ∙ ap (λ (sets : List (List ℕ)). has_set sets set) (sym (flat_map-map (λ (sets : List (List ℕ)). sets) (λ k. asked (words_of_part part_of k) trace) (range_with_len 0 count)))
         ∙ ap (λ (lists : List (List (List ℕ))). has_set (flat_map (λ (sets : List (List ℕ)). sets) lists) set) (sym own)
 
-    sizes : size_with (asked anywhere trace) ≡ size_with (flat_map (λ (sets : List (List ℕ)). sets) (asked_by_part count part_of trace_of))
-    sizes = same_count ([] ∷ asked anywhere trace) ([] ∷ flat_map (λ (sets : List (List ℕ)). sets) (asked_by_part count part_of trace_of)) (λ q. ap (λ b. pointwise nat_eq q [] || b) (members q))
+    sizes : size_with (asked anywhere trace) ≡ size_with (flat_map (λ (sets : List (List ℕ)). sets) (sets_by_part count part_of trace_of))
+    sizes = same_count ([] ∷ asked anywhere trace) ([] ∷ flat_map (λ (sets : List (List ℕ)). sets) (sets_by_part count part_of trace_of)) (λ q. ap (λ b. pointwise nat_eq q [] || b) (members q))
 
 -- ---- the table of an accepted trace
 

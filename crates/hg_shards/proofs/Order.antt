@@ -1,10 +1,10 @@
 -- The order of reports, and sorting by it.
-use Rattle.std.proofs.Common.{◌≡◌, ◌⊎◌, ℕ, suc, ◌+◌, ◌<◌, ◌≤◌, Bool, true, false, cond, ◌||◌, ◌&&◌, nat_eq, nat_lt, List, [], ◌∷◌, ◌++◌, length, refl, sym, ap, ◌∙◌, subst, inl, inr, ⊎_elim, arith, eq-eqb, eqb-true, ltb-true, lt-ltb}
-use Rattle.std.proofs.lemmas.Bool.{false≢true, or_left, or_right, or_cases, or_from, and_parts, and_from, and_left, ne_eqb, le-ltb, cases_Bool, eqb-false, ltb-false, and_right}
+use Rattle.std.proofs.Common.{◌≡◌, ◌⊎◌, suc, ◌+◌, ◌<◌, true, false, cond, ◌&&◌, nat_eq, nat_lt, List, [], ◌∷◌, ◌++◌, length, refl, sym, ap, ◌∙◌, inl, inr, ⊎_elim, arith, eq-eqb, eqb-true, ltb-true, lt-ltb}
+use Rattle.std.proofs.lemmas.Bool.{or_left, or_right, or_cases, or_from, and_parts, and_from, and_left, ne_eqb, le-ltb, and_right}
 use Rattle.std.proofs.lemmas.List.Sums.{fold-append}
 use Rattle.std.specs.List.{AllByRecursion, fold}
 use Rattle.hg_model.specs.declared.report.Report.{Report}
-use Rattle.hg_shards.specs.Merging.{is_before, IsBefore, Rises, with_report, sorted}
+use Rattle.hg_shards.specs.Merging.{is_before, IsBefore, with_report, sorted}
 
 -- in numbers: by event, and then by word
 abbrev pub Precedes : Report → Report → Type 0
@@ -29,8 +29,8 @@ not_after r s h =
     ⊎_elim
     (λ less. or_from (nat_lt s.event r.event) _ (le-ltb s.event r.event (omega arith)) (and_left (nat_eq s.event r.event) (nat_lt s.word r.word) (ne_eqb s.event r.event (λ e. omega arith))))
     (λ (both : (r.event ≡ s.event) × (r.word < s.word)).
-        let same = both.0 in let less = both.1 in
-        or_from (nat_lt s.event r.event) _ (le-ltb s.event r.event (omega arith)) (and_right (nat_eq s.event r.event) (nat_lt s.word r.word) (le-ltb s.word r.word (omega arith))))
+    let same = both.0 in let less = both.1 in
+    or_from (nat_lt s.event r.event) _ (le-ltb s.event r.event (omega arith)) (and_right (nat_eq s.event r.event) (nat_lt s.word r.word) (le-ltb s.word r.word (omega arith))))
     (precedes r s h)
 
 pub before_all : (r s t : Report) → IsBefore r s → IsBefore s t → IsBefore r t
@@ -39,8 +39,8 @@ before_all r s t g h =
     (⊎_elim
     (λ (a : r.event < s.event). ⊎_elim (λ (b : s.event < t.event). inl (omega arith)) (λ (b : (s.event ≡ t.event) × (s.word < t.word)). let e = b.0 in inl (omega arith)) (precedes s t h))
     (λ (a : (r.event ≡ s.event) × (r.word < s.word)).
-        let same = a.0 in let less = a.1 in
-        ⊎_elim (λ (b : s.event < t.event). inl (omega arith)) (λ (b : (s.event ≡ t.event) × (s.word < t.word)). let e = b.0 in let l = b.1 in inr (omega arith, omega arith)) (precedes s t h))
+    let same = a.0 in let less = a.1 in
+    ⊎_elim (λ (b : s.event < t.event). inl (omega arith)) (λ (b : (s.event ≡ t.event) × (s.word < t.word)). let e = b.0 in let l = b.1 in inr (omega arith, omega arith)) (precedes s t h))
     (precedes r s g))
 
 module _ {X : Type 0} (P : X → Type 0) where

@@ -1,19 +1,19 @@
 -- The reports of parts make those of the whole.
-use Rattle.std.proofs.Common.{◌≡◌, ℕ, zero, suc, ◌+◌, ◌-◌, ◌*◌, ◌/◌, ◌<◌, ◌≤◌, Bool, true, false, cond, ◌||◌, nat_eq, nat_lt, List, [], ◌∷◌, ◌++◌, length, map, filter, take, drop, refl, sym, ap, ◌∙◌, subst, arith, eq-eqb, eqb-true, append-nil, ltb-true, ltb-false, get_or, Contains}
-use Rattle.std.proofs.lemmas.Bool.{false≢true, eqb-false}
+use Rattle.std.proofs.Common.{◌≡◌, ℕ, zero, suc, ◌+◌, ◌-◌, ◌/◌, ◌<◌, ◌≤◌, Bool, true, false, cond, ◌||◌, nat_eq, nat_lt, List, [], ◌∷◌, ◌++◌, length, map, filter, take, drop, refl, sym, ap, ◌∙◌, subst, arith, eqb-true, append-nil, ltb-true, ltb-false, get_or, Contains}
+use Rattle.std.proofs.lemmas.Bool.{eqb-false}
 use Rattle.std.proofs.lemmas.List.FromFn.{get_or-map-range_with_len, length-map-range_with_len}
 use Rattle.std.proofs.lemmas.List.Concat.{length-flat_map}
 use Rattle.std.proofs.lemmas.List.Folds.{flat_map-map}
 use Rattle.std.proofs.lemmas.List.Elements.{filter-append, filter_passes, All-contains}
 use Rattle.std.proofs.lemmas.List.{take-append-drop, get_or_past}
-use Rattle.std.specs.List.{AllByRecursion, flat_map, list_any, range_with_len, sum_by}
+use Rattle.std.specs.List.{AllByRecursion, flat_map, range_with_len, sum_by}
 use Rattle.hg_model.specs.declared.event.Event.{Event}
 use Rattle.hg_model.specs.declared.report.Report.{Report}
 use Rattle.hg_model.specs.Reporting.{all_reports, reports_at_last}
 use Rattle.hg_model.proofs.Rising.{From}
-use Rattle.hg_shards.specs.Alike.{AgreeWithin, reports_within}
+use Rattle.hg_shards.specs.Alike.{reports_within}
 use Rattle.hg_shards.specs.Merging.{IsBefore, Rises, sorted, merged}
-use Rattle.hg_shards.specs.Pages.{page_of, words_of_part, AreParts, by_part, AreApart, MakeTheWhole}
+use Rattle.hg_shards.specs.Parts.{words_of_part, AreParts, reports_by_part, MakeTheWhole}
 use Rattle.hg_shards.proofs.Order.{length_sorted, each_weaker}
 use Rattle.hg_shards.proofs.Merging.{among, each_filter, front_is_first}
 use Rattle.hg_shards.proofs.Rising.{last_rise, reports_rise_lem}
@@ -94,9 +94,9 @@ flat_same f g same (k ∷ ks) = λ i. same k i ++ flat_same f g same ks i
 
 -- ---- one whole list that rises, and its parts
 
-module _ (count : ℕ) (part_of : ℕ → ℕ) (some : (page : ℕ) → part_of page < count) (whole : List Report) (up : Rises whole) where
+module _ (count : ℕ) (part_of : ℕ → ℕ) (some : (w : ℕ) → part_of w < count) (whole : List Report) (up : Rises whole) where
   abbrev part : Report → ℕ
-  part r = part_of (page_of (r.word / 4))
+  part r = part_of (r.word / 4)
 
   abbrev numbers : List ℕ
   numbers = range_with_len 0 count
@@ -108,7 +108,7 @@ module _ (count : ℕ) (part_of : ℕ → ℕ) (some : (page : ℕ) → part_of 
   all_parts = map its numbers
 
   has_part : (r : Report) → among (part r) numbers ≡ true
-  has_part r = number_among 0 count (part r) (omega arith) (let lt = some (page_of (r.word / 4)) in omega arith)
+  has_part r = number_among 0 count (part r) (omega arith) (let lt = some (r.word / 4) in omega arith)
 
   each_any : {X : Type 0} (P : X → Type 0) → ((x : X) → P x) → (xs : List X) → AllByRecursion P xs
   each_any P f [] = tt
@@ -165,18 +165,18 @@ module _ (count : ℕ) (part_of : ℕ → ℕ) (some : (page : ℕ) → part_of 
   make_the_whole = record { all = all_merged; apart = λ j k r g h. sym (of_part j r g) ∙ of_part k r h; total = total; kept = kept }
 
 pub parts_make_the_whole_lem : (count : ℕ) (part_of : ℕ → ℕ) (trace : List Event) (trace_of : ℕ → List Event) → AreParts count part_of trace trace_of →
-    MakeTheWhole (by_part count part_of (λ k. all_reports (trace_of k))) (all_reports trace)
-    × MakeTheWhole (by_part count part_of (λ k. reports_at_last (trace_of k))) (reports_at_last trace)
+    MakeTheWhole (reports_by_part count part_of (λ k. all_reports (trace_of k))) (all_reports trace)
+    × MakeTheWhole (reports_by_part count part_of (λ k. reports_at_last (trace_of k))) (reports_at_last trace)
 parts_make_the_whole_lem count part_of trace trace_of h = (
   subst (λ (lists : List (List Report)). MakeTheWhole lists (all_reports trace))
-  (map_numbers (λ k. reports_within (words_of_part part_of k) (all_reports trace)) (λ k. reports_within (words_of_part part_of k) (all_reports (trace_of k))) 0 count
-  (λ k lt. same_reports (words_of_part part_of k) trace (trace_of k) (h.agree k (omega arith))))
-  (make_the_whole count part_of h.some (all_reports trace) (reports_rise_lem trace)),
+      (map_numbers (λ k. reports_within (words_of_part part_of k) (all_reports trace)) (λ k. reports_within (words_of_part part_of k) (all_reports (trace_of k))) 0 count
+      (λ k lt. same_reports (words_of_part part_of k) trace (trace_of k) (h.agree k (omega arith))))
+      (make_the_whole count part_of h.some (all_reports trace) (reports_rise_lem trace)),
   subst (λ (lists : List (List Report)). MakeTheWhole lists (reports_at_last trace))
-  (map_numbers (λ k. reports_within (words_of_part part_of k) (reports_at_last trace)) (λ k. reports_within (words_of_part part_of k) (reports_at_last (trace_of k))) 0 count
-  (λ k lt. same_last (words_of_part part_of k) trace (trace_of k) (h.agree k (omega arith))))
-  (make_the_whole count part_of h.some (reports_at_last trace) (last_rise trace)),
+      (map_numbers (λ k. reports_within (words_of_part part_of k) (reports_at_last trace)) (λ k. reports_within (words_of_part part_of k) (reports_at_last (trace_of k))) 0 count
+      (λ k lt. same_last (words_of_part part_of k) trace (trace_of k) (h.agree k (omega arith))))
+      (make_the_whole count part_of h.some (reports_at_last trace) (last_rise trace)),
 )
 
-pub shares_make_the_whole_lem : (count : ℕ) (part_of : ℕ → ℕ) (whole : List Report) → ((page : ℕ) → part_of page < count) → Rises whole → MakeTheWhole (by_part count part_of (λ k. whole)) whole
+pub shares_make_the_whole_lem : (count : ℕ) (part_of : ℕ → ℕ) (whole : List Report) → ((w : ℕ) → part_of w < count) → Rises whole → MakeTheWhole (reports_by_part count part_of (λ k. whole)) whole
 shares_make_the_whole_lem count part_of whole some up = make_the_whole count part_of some whole up

@@ -1,15 +1,13 @@
 -- The reports of the words of a set, by what the last event does to them.
-use Rattle.std.proofs.Common.{◌≡◌, ℕ, ◌+◌, ◌*◌, ◌/◌, Bool, true, false, cond, ◌&&◌, List, [], ◌∷◌, ◌++◌, length, map, filter, refl, sym, ap, ◌∙◌, subst, arith}
-use Rattle.std.proofs.lemmas.Bool.{false≢true, and_parts}
+use Rattle.std.proofs.Common.{◌≡◌, ℕ, ◌*◌, ◌/◌, Bool, true, false, cond, ◌&&◌, List, [], ◌∷◌, ◌++◌, map, filter, refl, sym, ap, ◌∙◌, arith}
 use Rattle.std.proofs.lemmas.List.Elements.{filter-append}
 use Rattle.std.specs.List.{AllByRecursion}
 use Rattle.hg_model.specs.declared.event.Event.{Event}
 use Rattle.hg_model.specs.declared.event.Event.TheVariants.{Read, Write, Alloc, Free}
 use Rattle.hg_model.specs.declared.report.Report.{Report}
-use Rattle.hg_model.specs.Segments.{segments_of}
-use Rattle.hg_model.specs.History.{overlaps, history}
+use Rattle.hg_model.specs.History.{overlaps}
 use Rattle.hg_model.specs.Sets.{contains}
-use Rattle.hg_model.specs.Sharing.{state, threads_in}
+use Rattle.hg_model.specs.Sharing.{threads_in}
 use Rattle.hg_model.specs.Reporting.{words_of, is_reported, report, reports_at_last, all_reports}
 use Rattle.hg_model.proofs.Rising.{From, from_increasing}
 use Rattle.hg_model.proofs.Reported.{words_lem}

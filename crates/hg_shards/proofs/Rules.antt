@@ -1,14 +1,13 @@
 -- What needs no access: segments, threads and held locks.
-use Rattle.std.proofs.Common.{◌≡◌, ℕ, suc, Bool, true, false, cond, nat_eq, List, [], ◌∷◌, ◌++◌, length, map, refl, sym, ap, ◌∙◌, subst, ⊎_elim}
+use Rattle.std.proofs.Common.{◌≡◌, ℕ, suc, Bool, true, false, cond, nat_eq, List, [], ◌∷◌, ◌++◌, length, map, refl, sym, ap, ◌∙◌, ⊎_elim}
 use Rattle.std.proofs.lemmas.Bool.{false≢true}
 use Rattle.hg_model.specs.declared.event.Event.{Event}
-use Rattle.hg_model.specs.declared.event.Event.TheVariants.{Fork, Join, Lock, RdLock, Unlock, Read, Write, Alloc, Free, Send, Recv}
+use Rattle.hg_model.specs.declared.event.Event.TheVariants.{Fork, Join, Lock, RdLock, Unlock, Send, Recv}
 use Rattle.hg_model.specs.declared.segment.Segment.{Segment}
-use Rattle.hg_model.specs.declared.thread.ThreadState.{ThreadState}
 use Rattle.hg_model.specs.Locks.{held, with_hold, without_lock}
 use Rattle.hg_model.specs.Sets.{with_member}
 use Rattle.hg_model.specs.Segments.{opened, segments_of, used, not_joined}
-use Rattle.hg_model.specs.Contents.{thread_of, threads_of}
+use Rattle.hg_model.specs.Contents.{threads_of}
 use Rattle.hg_shards.specs.Alike.{is_of_memory, DoTheSame, AreAlike, AgreeWithin}
 
 -- ---- an event of memory leaves it all as it was

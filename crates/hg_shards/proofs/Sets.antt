@@ -1,6 +1,6 @@
 -- Rising lists of numbers are equal where they have the same members.
-use Rattle.std.proofs.Common.{◌≡◌, ℕ, suc, ◌+◌, ◌<◌, ◌≤◌, Bool, true, false, cond, ◌||◌, ◌&&◌, nat_eq, List, [], ◌∷◌, filter, refl, sym, ap, ◌∙◌, subst, ⊎_elim, arith, eq-eqb, eqb-true}
-use Rattle.std.proofs.lemmas.Bool.{false≢true, or_left, or_right, or_cases, ne_eqb, false_from_ne_true}
+use Rattle.std.proofs.Common.{◌≡◌, ℕ, suc, ◌<◌, ◌≤◌, Bool, true, false, cond, ◌||◌, ◌&&◌, nat_eq, List, [], ◌∷◌, filter, refl, sym, ap, ◌∙◌, subst, ⊎_elim, arith, eq-eqb, eqb-true}
+use Rattle.std.proofs.lemmas.Bool.{false≢true, or_left, or_right, or_cases, ne_eqb}
 use Rattle.std.specs.List.{AllByRecursion}
 use Rattle.hg_model.specs.Sets.{contains}
 use Rattle.hg_model.proofs.Rising.{From, from_less}

@@ -1,9 +1,8 @@
 -- A table that was asked for sets has each of them once, and the empty set.
-use Rattle.std.proofs.Common.{◌≡◌, ◌⊎◌, ℕ, zero, suc, get_or, inl, inr, ◌+◌, ◌<◌, ◌≤◌, Bool, true, false, cond, ◌||◌, List, [], ◌∷◌, ◌++◌, length, Contains, Option, Some, None, Result, Ok, Err, refl, sym, ap, ◌∙◌, subst, ⊎_elim, arith, append_assoc, append-nil, length-append}
+use Rattle.std.proofs.Common.{◌≡◌, ◌⊎◌, ℕ, zero, suc, get_or, inl, inr, ◌<◌, ◌≤◌, Bool, true, false, ◌||◌, List, [], ◌∷◌, ◌++◌, length, Contains, Some, None, Ok, Err, refl, sym, ap, ◌∙◌, subst, ⊎_elim, arith, append_assoc, append-nil, length-append}
 use Rattle.std.proofs.lemmas.Bool.{false≢true, or_left, or_right, or_cases, cases_lt}
 use Rattle.std.proofs.lemmas.List.{get_or_default}
 use Rattle.std.specs.Cmp.Lexicographic.{pointwise}
-use Rattle.std.specs.List.{IsDistinct}
 use Rattle.std.proofs.Common.{nat_eq}
 use Rattle.hg_sets.specs.Interning.{Table, Interns, Adds, StandsAt, first_table, with_set}
 use Rattle.hg_sets.specs.declared.fault.SetFault.{SetFault}
@@ -63,8 +62,8 @@ module _ (limit : ℕ) where
   asks_none before (set ∷ asked) old new h a =
       ⊎_elim
       (λ (went : (id : ℕ) × (mid : Table) × Interns old set (Ok id) mid × Asks mid asked None new).
-          subst (λ (sets : List (List ℕ)). HasSets limit sets new) (append_assoc before (set ∷ []) asked)
-          (asks_none (before ++ set ∷ []) asked went.1 new (interned before set went.0 old went.1 h went.2) went.3))
+      subst (λ (sets : List (List ℕ)). HasSets limit sets new) (append_assoc before (set ∷ []) asked)
+      (asks_none (before ++ set ∷ []) asked went.1 new (interned before set went.0 old went.1 h went.2) went.3))
       (λ (refused : (fault : SetFault) × Interns old set (Err fault) new × (None ≡ Some fault)). absurd (cc refused.2))
       a
 
@@ -104,8 +103,8 @@ module _ (limit : ℕ) where
   asks_full before (set ∷ asked) old new h a =
       ⊎_elim
       (λ (went : (id : ℕ) × (mid : Table) × Interns old set (Ok id) mid × Asks mid asked (Some Full) new).
-          subst (λ (sets : List (List ℕ)). limit < size_with sets) (append_assoc before (set ∷ []) asked)
-          (asks_full (before ++ set ∷ []) asked went.1 new (interned before set went.0 old went.1 h went.2) went.3))
+      subst (λ (sets : List (List ℕ)). limit < size_with sets) (append_assoc before (set ∷ []) asked)
+      (asks_full (before ++ set ∷ []) asked went.1 new (interned before set went.0 old went.1 h went.2) went.3))
       (λ (refused : (fault : SetFault) × Interns old set (Err fault) new × (Some Full ≡ Some fault)). refused_full before asked set old new refused.0 h refused.1 refused.2)
       a
 
@@ -151,8 +150,8 @@ module _ (limit : ℕ) where
   room_for sets (set ∷ more) t h le =
       ⊎_elim
       (λ (went : (id : ℕ) × (new : Table) × Interns t set (Ok id) new × HasSets limit (sets ++ set ∷ []) new).
-          let rest = room_for (sets ++ set ∷ []) more went.1 went.3 (subst (λ (all : List (List ℕ)). size_with all ≤ limit) (sym (append_assoc sets (set ∷ []) more)) le) in
-          (rest.0, inl (went.0, went.1, went.2, rest.1), subst (λ (all : List (List ℕ)). HasSets limit all rest.0) (append_assoc sets (set ∷ []) more) rest.2))
+      let rest = room_for (sets ++ set ∷ []) more went.1 went.3 (subst (λ (all : List (List ℕ)). size_with all ≤ limit) (sym (append_assoc sets (set ∷ []) more)) le) in
+      (rest.0, inl (went.0, went.1, went.2, rest.1), subst (λ (all : List (List ℕ)). HasSets limit all rest.0) (append_assoc sets (set ∷ []) more) rest.2))
       (λ (full : (Contains t.sets set → ⊥) × (length t.sets ≡ t.limit)). let lt = too_many sets more set t h full.0 full.1 in absurd (omega (arith, lt, le)))
       (asked_once sets set t h)
 
@@ -161,8 +160,8 @@ module _ (limit : ℕ) where
   no_room_for sets (set ∷ more) t h lt =
       ⊎_elim
       (λ (went : (id : ℕ) × (new : Table) × Interns t set (Ok id) new × HasSets limit (sets ++ set ∷ []) new).
-          let rest = no_room_for (sets ++ set ∷ []) more went.1 went.3 (subst (λ (all : List (List ℕ)). limit < size_with all) (sym (append_assoc sets (set ∷ []) more)) lt) in
-          (rest.0, inl (went.0, went.1, went.2, rest.1)))
+      let rest = no_room_for (sets ++ set ∷ []) more went.1 went.3 (subst (λ (all : List (List ℕ)). limit < size_with all) (sym (append_assoc sets (set ∷ []) more)) lt) in
+      (rest.0, inl (went.0, went.1, went.2, rest.1)))
       (λ (full : (Contains t.sets set → ⊥) × (length t.sets ≡ t.limit)). (t, inr (Full, inr (full.0, (full.1, refl)), refl)))
       (asked_once sets set t h)
 

@@ -1,13 +1,13 @@
 -- The next report of several lists.
-use Rattle.std.proofs.Common.{◌≡◌, ◌⊎◌, ℕ, zero, suc, ◌+◌, ◌<◌, ◌≤◌, Bool, true, false, cond, List, [], ◌∷◌, ◌++◌, length, map, get_or, set, Option, Some, None, refl, sym, ap, ◌∙◌, subst, inl, inr, ⊎_elim, arith, append_assoc}
+use Rattle.std.proofs.Common.{◌≡◌, ◌⊎◌, ℕ, zero, suc, ◌+◌, ◌<◌, ◌≤◌, true, false, List, [], ◌∷◌, ◌++◌, length, map, get_or, set, Option, Some, None, refl, sym, ap, ◌∙◌, subst, inl, inr, ⊎_elim, arith, append_assoc}
 use Rattle.std.proofs.lemmas.Bool.{false≢true, false_from_ne_true, cases_order, cases_lt}
 use Rattle.std.proofs.lemmas.List.{get_or-map, get_or_past, length-map}
 use Rattle.std.specs.Option.{is_some}
 use Rattle.std.specs.List.{AllByRecursion, flat_map}
 use Rattle.hg_model.specs.declared.report.Report.{Report}
 use Rattle.hg_shards.specs.declared.merge.Place.{Place}
-use Rattle.hg_shards.specs.Merging.{is_before, IsBefore, Rises, sorted, merged, place_of, comes_before, head_of, wins, TakesNext, IsNext, IsNextByHeads}
-use Rattle.hg_shards.proofs.Order.{NotAfter, not_after, before_all, precedes, before, Precedes, least_is_first, each_both, each_weaker}
+use Rattle.hg_shards.specs.Merging.{is_before, IsBefore, Rises, sorted, merged, place_of, comes_before, head_of, wins, TakesNext, IsNextByHeads}
+use Rattle.hg_shards.proofs.Order.{NotAfter, not_after, before_all, precedes, before, least_is_first, each_both, each_weaker}
 
 -- ---- heads by their order
 
@@ -24,16 +24,16 @@ before_rest r s t g h =
     (⊎_elim
     (λ (less : t.event < s.event). absurd (false≢true (sym h ∙ before t s (inl less))))
     (λ (other : (t.event ≡ s.event) ⊎ (s.event < t.event)).
-        ⊎_elim
-        (λ (same : t.event ≡ s.event).
-            ⊎_elim
-            (λ (less : t.word < s.word). absurd (false≢true (sym h ∙ before t s (inr (same, less)))))
-            (λ (more : s.word ≤ t.word).
-                ⊎_elim (λ (a : r.event < s.event). inl (omega arith)) (λ (a : (r.event ≡ s.event) × (r.word < s.word)). let e = a.0 in let l = a.1 in inr (omega arith, omega arith)) (precedes r s g))
-            (cases_lt t.word s.word))
-        (λ (more : s.event < t.event).
-            ⊎_elim (λ (a : r.event < s.event). inl (omega arith)) (λ (a : (r.event ≡ s.event) × (r.word < s.word)). let e = a.0 in inl (omega arith)) (precedes r s g))
-        other)
+    ⊎_elim
+    (λ (same : t.event ≡ s.event).
+    ⊎_elim
+    (λ (less : t.word < s.word). absurd (false≢true (sym h ∙ before t s (inr (same, less)))))
+    (λ (more : s.word ≤ t.word).
+    ⊎_elim (λ (a : r.event < s.event). inl (omega arith)) (λ (a : (r.event ≡ s.event) × (r.word < s.word)). let e = a.0 in let l = a.1 in inr (omega arith, omega arith)) (precedes r s g))
+    (cases_lt t.word s.word))
+    (λ (more : s.event < t.event).
+    ⊎_elim (λ (a : r.event < s.event). inl (omega arith)) (λ (a : (r.event ≡ s.event) × (r.word < s.word)). let e = a.0 in inl (omega arith)) (precedes r s g))
+    other)
     (order t.event s.event))
   where
     order : (a b : ℕ) → (a < b) ⊎ ((a ≡ b) ⊎ (b < a))

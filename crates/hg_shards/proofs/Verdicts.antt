@@ -5,7 +5,7 @@ use Rattle.std.specs.List.{fold}
 use Rattle.hg_model.specs.declared.event.Named.{Named}
 use Rattle.hg_model.specs.Messages.{was_sent, was_received}
 use Rattle.hg_model.specs.Contents.{events_of, last_of_source, summary}
-use Rattle.hg_model.specs.Verdicts.{Standing, standing_of, verdict}
+use Rattle.hg_model.specs.Verdicts.{standing_of, verdict}
 use Rattle.hg_shards.specs.Alike.{AgreeByName, ContentsAgree}
 use Rattle.hg_shards.proofs.Rules.{same_length, same_segments, same_threads}
 use Rattle.hg_shards.proofs.Lives.{same_state}

@@ -1,4 +1,4 @@
--- Traces that do the same to the words of a set, whatever they do to other words.
+-- Traces that do the same to the words of a group, whatever they do to other words. A group is given as a test of words.
 use Rattle.std.specs.Prelude.{◌≡◌, ◌⊎◌, ℕ, ◌/◌, Bool, true, false, List, [], ◌∷◌, filter, map, if◌then◌else◌}
 use Rattle.std.specs.List.{AllByRecursion}
 use Rattle.hg_model.specs.declared.event.Event.{Event}
@@ -32,17 +32,17 @@ is_of_memory (Alloc b) = true
 is_of_memory (Free b) = true
 is_of_memory _ = false
 
--- Both events are of memory, and they do the same to each word of the set.
+-- Both events are of memory, and they do the same to each word of the group.
 pub record DoTheSame (within : ℕ → Bool) (e f : Event) : Type 0 where
   pub first : is_of_memory e ≡ true
   pub second : is_of_memory f ≡ true
   pub touches : (w : ℕ) → within w ≡ true → touch w e ≡ touch w f
 
--- The words of the set cannot tell the events apart: they are one, or both are of memory and do the same to these words.
+-- The group cannot tell the events apart: they are one, or both are of memory and do the same to its words.
 abbrev pub AreAlike : (ℕ → Bool) → Event → Event → Type 0
 AreAlike within e f = (e ≡ f) ⊎ DoTheSame within e f
 
--- The traces are as long as each other, and the words of the set cannot tell apart the events at any place.
+-- The traces are as long as each other, and the group cannot tell apart the events at any place.
 abbrev pub AgreeWithin : (ℕ → Bool) → List Event → List Event → Type 0
 AgreeWithin within [] [] = Unit {0}
 AgreeWithin within [] (f ∷ fs) = ⊥
@@ -54,27 +54,28 @@ pub record AgreeByName (within : ℕ → Bool) (ms ns : List Named) : Type 0 whe
   pub sources : map (λ n. n.source) ms ≡ map (λ n. n.source) ns
   pub events : AgreeWithin within (events_of ms) (events_of ns)
 
--- The contents have the same count of events, segments and threads, and the same words of the set.
+-- The contents have the same count of events, segments and threads, and each word of the group in the same state.
 pub record ContentsAgree (within : ℕ → Bool) (c d : Content) : Type 0 where
   pub events : c.events ≡ d.events
   pub segments : c.segments ≡ d.segments
   pub threads : c.threads ≡ d.threads
   pub words : (w : ℕ) → within w ≡ true → c.words w ≡ d.words w
 
--- The event is of memory and touches no word of the set.
+-- The event is of memory and touches no word of the group.
 pub record PassesBy (within : ℕ → Bool) (e : Event) : Type 0 where
   pub memory : is_of_memory e ≡ true
   pub nothing : (w : ℕ) → within w ≡ true → touch w e ≡ Untouched
 
--- No event of the trace touches a word that is not of the set.
+-- No event of the trace touches a word outside the group.
 abbrev pub IsOwn : (ℕ → Bool) → List Event → Type 0
 IsOwn within trace = AllByRecursion (λ e. (w : ℕ) → within w ≡ false → touch w e ≡ Untouched) trace
 
--- the reports of words of the set
+-- the reports of words of the group
 abbrev pub reports_within : (ℕ → Bool) → List Report → List Report
 reports_within within reports = filter (λ r. within (r.word / 4)) reports
 
--- Both events are of memory and of one thread, and the second has a lawful length and end.
+-- Both events are of memory and of one thread, and the second has a lawful length and end. So is an access that was cut to the
+-- words of a group.
 pub record IsLawfulCut (e f : Event) : Type 0 where
   pub first : is_of_memory e ≡ true
   pub second : is_of_memory f ≡ true
@@ -82,7 +83,7 @@ pub record IsLawfulCut (e f : Event) : Type 0 where
   pub len : bad_length f ≡ false
   pub end : past_address_end f ≡ false
 
--- The second event may stand in the place of the first: under the same name it is the same event, or a lawful cut of it.
+-- The second event may stand in the place of the first: it has the same name, and is the same event or a lawful cut of it.
 pub record MayStandFor (m n : Named) : Type 0 where
   pub source : m.source ≡ n.source
   pub number : m.number ≡ n.number

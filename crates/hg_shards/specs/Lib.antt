@@ -1,5 +1,5 @@
 pub mod Alike
 pub mod Merging
-pub mod Pages
+pub mod Parts
 pub mod Asking
 pub mod Laws

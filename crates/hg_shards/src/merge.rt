@@ -23,7 +23,10 @@ impl Place {
     pub fn of(report: &Report) -> Self
         ensures { result ≡ place_of report.now }
     {
-        Place { event: report.event, word: report.word }
+        Place {
+            event: report.event,
+            word: report.word,
+        }
     }
 
     /// Whether it comes before another one.
@@ -121,7 +124,11 @@ impl<'a> Merge<'a> {
         for list in lists {
             heads.push(head_at(list, 0))?;
         }
-        Ok(Merge { lists, given, heads })
+        Ok(Merge {
+            lists,
+            given,
+            heads,
+        })
     }
 
     /// The next report, by event and then by word, or None where all were given. It takes no memory.

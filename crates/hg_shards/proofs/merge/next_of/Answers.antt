@@ -1,4 +1,4 @@
-use Rattle.std.proofs.Common.{◌≡◌, ◌<◌, ℕ, length, arith, sym, ◌∙◌}
+use Rattle.std.proofs.Common.{arith, sym, ◌∙◌}
 use Rattle.hg_shards.proofs.Taking.{best_is_next, best_is_none}
 use Rattle.hg_shards.proofs.merge.next_of.Goals as goal
 use Rattle.hg_shards.proofs.merge.next_of.Goals.{else-best-heads-via-then-best-heads+else-is_some, else-best-heads-via-else-best-heads}

@@ -1,4 +1,4 @@
-use Rattle.std.proofs.Common.{◌≡◌, ◌<◌, ◌+◌, ℕ, length, List, ◌∷◌, Option, Some, Vec, ap, ◌∙◌, sym, subst, arith, get_or, set, drop}
+use Rattle.std.proofs.Common.{◌≡◌, ◌+◌, ℕ, List, ◌∷◌, Option, Some, Vec, ap, ◌∙◌, sym, subst, arith, get_or, set, drop}
 use Rattle.hg_model.specs.declared.report.Report.{Report}
 use Rattle.hg_shards.specs.declared.merge.Place.{Place}
 use Rattle.hg_shards.specs.Merging.{IsUnderWay, IsNextByHeads, head_of, merged, left}
@@ -51,7 +51,7 @@ pub invariant_of-self : goal.invariant_of-self
 invariant_of-self c =
     let s = by_heads c.self.inside.lists.now c.self.inside.given.items c.self.inside.heads.items c.deref.result.now c.in-Some.k c.self.invariant c.deref.ensures.value c.in-Some.ensures in
     let is : c.head_at.result ≡ head_of (drop (c.index-place.result.now + 1) (get_or c.self.inside.lists.now c.in-Some.k c.index-self-k.result).items) =
-        c.head_at.ensures ∙ ap (λ (reports : List Report). head_of (drop (c.index-place.result.now + 1) reports)) c.deref-in-Some.ensures.value in
+    c.head_at.ensures ∙ ap (λ (reports : List Report). head_of (drop (c.index-place.result.now + 1) reports)) c.deref-in-Some.ensures.value in
     subst (λ (head : Option Place). IsUnderWay c.self.inside.lists.now (set c.self.inside.given.items c.in-Some.k (c.index-place.result.now + 1)) (set c.self.inside.heads.items c.in-Some.k head)) (sym is)
     (s.under_way c.index-place.result.now c.index-self-k.result c.index-place.ensures)
 
