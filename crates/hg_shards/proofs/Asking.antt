@@ -12,8 +12,7 @@ use Rattle.hg_model.specs.declared.event.Event.{Event}
 use Rattle.hg_model.specs.declared.event.Event.TheVariants.{Read, Write}
 use Rattle.hg_model.specs.declared.event.Named.{Named}
 use Rattle.hg_model.specs.declared.report.Report.{Report}
-use Rattle.hg_model.specs.Reporting.{is_reported, reports_at_last, all_reports}
-use Rattle.hg_model.specs.Contents.{events_of, summary}
+use Rattle.hg_model.specs.Contents.{Content, events_of, summary}
 use Rattle.hg_model.specs.Verdicts.{IsAccepted}
 use Rattle.hg_model.specs.Change.{word_after}
 use Rattle.hg_model.proofs.Accepted.{passes}
@@ -21,13 +20,12 @@ use Rattle.hg_model.proofs.Words.{history_fits, word_law}
 use Rattle.hg_sets.specs.Interning.{Table, first_table}
 use Rattle.hg_sets.specs.declared.fault.SetFault.TheVariants.{Full}
 use Rattle.hg_detect.specs.Making.{sets_asked, sets_in}
-use Rattle.hg_shards.specs.Alike.{Untouched, touch, AreAlike, AgreeWithin, IsOwn, reports_within}
+use Rattle.hg_shards.specs.Alike.{AreAlike, AgreeWithin, StaysWithin}
 use Rattle.hg_shards.specs.Parts.{words_of_part, AreParts}
-use Rattle.hg_shards.specs.Asking.{accessed, sets_of, asked_at_last, asked, anywhere, has_set, size_with, sets_by_part, AsksForTrace, HasSets, HaveTogether}
+use Rattle.hg_shards.specs.Asking.{accessed, sets_of, asked_at_last, asked, asked_after, anywhere, has_set, size_with, sets_by_part, AsksForTrace, HasSets, HaveTogether}
 use Rattle.hg_shards.proofs.Lives.{same_touch, same_state}
 use Rattle.hg_shards.proofs.Sets.{from_filter, rising_same, contains_filter, each_member}
-use Rattle.hg_shards.proofs.Reports.{accessed_rise, accessed_words, is_access, reports_by, report_by, each_filter}
-use Rattle.hg_shards.proofs.Order.{each_both}
+use Rattle.hg_shards.proofs.Reports.{accessed_rise, accessed_words, is_access}
 use Rattle.hg_shards.proofs.Counting.{same_count, has_both, unique_members}
 use Rattle.hg_shards.proofs.Tables.{first_has, asks_none, asks_full, size_is}
 use Rattle.hg_shards.proofs.Merging.{among}
@@ -197,17 +195,26 @@ flat_same : (f g : ℕ → List (List ℕ)) → ((w : ℕ) → f w ≡ g w) → 
 flat_same f g same [] = refl
 flat_same f g same (w ∷ ws) = λ i. same w i ++ flat_same f g same ws i
 
-asked_by_words : (trace : List Named) (e : Event) → sets_asked (summary trace) e ≡ flat_map (λ w. sets_in (word_after (summary trace) e w)) (accessed e)
-asked_by_words trace (Read a) = refl
-asked_by_words trace (Write a) = refl
-asked_by_words trace e = refl
+pub asked_by_words : (c : Content) (e : Event) → sets_asked c e ≡ flat_map (λ w. sets_in (word_after c e w)) (accessed e)
+asked_by_words c (Read a) = refl
+asked_by_words c (Write a) = refl
+asked_by_words c e = refl
 
-pub asked_is : (n : Named) (past : List Named) → IsAccepted (n ∷ past) → sets_asked (summary past) n.event ≡ asked_at_last anywhere (events_of (n ∷ past))
+after_is : (n : Named) (past : List Named) → IsAccepted (n ∷ past) → (within : ℕ → Bool) → asked_after within (summary past) n.event ≡ asked_at_last within (events_of (n ∷ past))
+after_is n past h within =
+    flat_same (λ w. sets_in (word_after (summary past) n.event w)) (sets_of (n.event ∷ events_of past))
+    (λ w. ap sets_in (sym (word_law past n.event w (passes past n h.1) (history_fits past h.0 w)))) (filter within (accessed n.event))
+
+asked_is : (n : Named) (past : List Named) → IsAccepted (n ∷ past) → sets_asked (summary past) n.event ≡ asked_at_last anywhere (events_of (n ∷ past))
 asked_is n past h =
-    asked_by_words past n.event
-    ∙ flat_same (λ w. sets_in (word_after (summary past) n.event w)) (sets_of (n.event ∷ events_of past))
-    (λ w. ap sets_in (sym (word_law past n.event w (passes past n h.1) (history_fits past h.0 w)))) (accessed n.event)
-    ∙ ap (flat_map (sets_of (n.event ∷ events_of past))) (sym (filter_all (accessed n.event)))
+    asked_by_words (summary past) n.event
+    ∙ ap (flat_map (λ w. sets_in (word_after (summary past) n.event w))) (sym (filter_all (accessed n.event)))
+    ∙ after_is n past h anywhere
+
+pub sets_are_lem : (n : Named) (past : List Named) → IsAccepted (n ∷ past) →
+    ((within : ℕ → Bool) → asked_after within (summary past) n.event ≡ asked_at_last within (events_of (n ∷ past)))
+    × (sets_asked (summary past) n.event ≡ asked_at_last anywhere (events_of (n ∷ past)))
+sets_are_lem n past h = (after_is n past h, asked_is n past h)
 
 has_trace : (limit : ℕ) → 0 < limit → (trace : List Named) (table : Table) → IsAccepted trace → AsksForTrace (first_table limit) trace None table → HasSets limit (asked anywhere (events_of trace)) table
 has_trace limit some [] table h a = subst (HasSets limit []) (sym a.1) (first_has limit some)
@@ -229,34 +236,21 @@ full_lem limit trace table some h = (
   λ a. full_trace limit some trace table h a,
 )
 
--- ---- a trace of a part's own
+-- ---- an event that stays within
 
-kept : {X : Type 0} (p : X → Bool) (xs : List X) → AllByRecursion (λ x. p x ≡ true) xs → filter p xs ≡ xs
+pub kept : {X : Type 0} (p : X → Bool) (xs : List X) → AllByRecursion (λ x. p x ≡ true) xs → filter p xs ≡ xs
 kept p [] h = refl
 kept p (x ∷ xs) h = ap (λ b. cond b (x ∷ filter p xs) (filter p xs)) h.0 ∙ ap (λ more. x ∷ more) (kept p xs h.1)
 
 module _ (within : ℕ → Bool) where
-  own_words : (e : Event) → ((w : ℕ) → within w ≡ false → touch w e ≡ Untouched) → AllByRecursion (λ w. within w ≡ true) (accessed e)
-  own_words e own = each_member (λ w. within w ≡ true) (accessed e) (λ w has. true_from_ne_false (within w) (λ outside. false≢true (sym (ap is_access (own w outside)) ∙ sym (accessed_words e w) ∙ has)))
+  pub own_words : (e : Event) → StaysWithin within e → AllByRecursion (λ w. within w ≡ true) (accessed e)
+  own_words e own =
+      each_member (λ w. within w ≡ true) (accessed e)
+      (λ w has. true_from_ne_false (within w) (λ outside. false≢true (sym (ap is_access (own w outside)) ∙ sym (accessed_words e w) ∙ has)))
 
-  own_asked : (trace : List Event) → IsOwn within trace → asked within trace ≡ asked anywhere trace
-  own_asked [] own = refl
-  own_asked (e ∷ past) own =
-      λ i. own_asked past own.1 i ++ flat_map (sets_of (e ∷ past)) ((kept within (accessed e) (own_words e own.0) ∙ sym (filter_all (accessed e))) i)
+  pub own_asked : (c : Content) (e : Event) → StaysWithin within e → sets_asked c e ≡ asked_after within c e
+  own_asked c e own = asked_by_words c e ∙ ap (flat_map (λ w. sets_in (word_after c e w))) (sym (kept within (accessed e) (own_words e own)))
 
-  each_report : (f : ℕ → Report) → ((w : ℕ) → (f w).word ≡ 4 * w) → (ws : List ℕ) → AllByRecursion (λ w. within w ≡ true) ws → AllByRecursion (λ (r : Report). within (r.word / 4) ≡ true) (map f ws)
+  pub each_report : (f : ℕ → Report) → ((w : ℕ) → (f w).word ≡ 4 * w) → (ws : List ℕ) → AllByRecursion (λ w. within w ≡ true) ws → AllByRecursion (λ (r : Report). within (r.word / 4) ≡ true) (map f ws)
   each_report f word [] h = tt
   each_report f word (w ∷ ws) h = ((let e : (f w).word / 4 ≡ w = (let is = word w in omega arith) in ap within e ∙ h.0), each_report f word ws h.1)
-
-  own_last : (trace : List Event) → IsOwn within trace → AllByRecursion (λ (r : Report). within (r.word / 4) ≡ true) (reports_at_last trace)
-  own_last [] own = tt
-  own_last (e ∷ past) own =
-      subst (AllByRecursion (λ (r : Report). within (r.word / 4) ≡ true)) (sym (reports_by e past))
-      (each_report (λ w. report_by (e ∷ past) (touch w e) w) (λ w. refl) (filter (is_reported (e ∷ past)) (accessed e)) (each_filter (λ w. within w ≡ true) (is_reported (e ∷ past)) (accessed e) (own_words e own.0)))
-
-  own_reports : (trace : List Event) → IsOwn within trace → AllByRecursion (λ (r : Report). within (r.word / 4) ≡ true) (all_reports trace)
-  own_reports [] own = tt
-  own_reports (e ∷ past) own = each_both (λ (r : Report). within (r.word / 4) ≡ true) (all_reports past) (reports_at_last (e ∷ past)) (own_reports past own.1) (own_last (e ∷ past) own)
-
-  pub own_lem : (trace : List Event) → IsOwn within trace → (reports_within within (all_reports trace) ≡ all_reports trace) × (asked within trace ≡ asked anywhere trace)
-  own_lem trace own = (kept (λ (r : Report). within (r.word / 4)) (all_reports trace) (own_reports trace own), own_asked trace own)

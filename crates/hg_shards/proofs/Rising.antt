@@ -7,6 +7,7 @@ use Rattle.hg_model.specs.Reporting.{is_reported, reports_at_last, all_reports}
 use Rattle.hg_model.proofs.Rising.{From}
 use Rattle.hg_shards.specs.Asking.{accessed}
 use Rattle.hg_shards.specs.Alike.{touch}
+use Rattle.hg_shards.specs.Laws.{ReportsRise}
 use Rattle.hg_shards.specs.Merging.{IsBefore, Rises}
 use Rattle.hg_shards.proofs.Sets.{from_filter}
 use Rattle.hg_shards.proofs.Reports.{accessed_rise, report_by, reports_by}
@@ -61,3 +62,18 @@ reports_rise_lem (e ∷ past) =
     (each_weaker (λ (r : Report). r.event ≤ length past) (λ (r : Report). AllByRecursion (IsBefore r) (reports_at_last (e ∷ past)))
     (λ r le. each_weaker (λ (s : Report). s.event ≡ suc (length past)) (IsBefore r) (λ s is. before r s (inl (omega arith))) (reports_at_last (e ∷ past)) (last_event e past))
     (all_reports past) (early past))
+
+front_rises : (reports more : List Report) → Rises (reports ++ more) → Rises reports
+front_rises [] more h = tt
+front_rises (r ∷ reports) more h = (each_front (IsBefore r) reports more h.0, front_rises reports more h.1)
+  where
+    each_front : (P : Report → Type 0) (xs ys : List Report) → AllByRecursion P (xs ++ ys) → AllByRecursion P xs
+    each_front P [] ys k = tt
+    each_front P (x ∷ xs) ys k = (k.0, each_front P xs ys k.1)
+
+rest_rises : (reports more : List Report) → Rises (reports ++ more) → Rises more
+rest_rises [] more h = h
+rest_rises (r ∷ reports) more h = rest_rises reports more h.1
+
+pub rise_lem : ReportsRise
+rise_lem = record { all = reports_rise_lem; front = front_rises; rest = rest_rises }

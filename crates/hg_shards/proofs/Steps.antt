@@ -17,11 +17,11 @@ use Rattle.hg_model.specs.Reporting.{words_of}
 use Rattle.hg_model.specs.Contents.{Content}
 use Rattle.hg_model.specs.Change.{touched, threads_after, locks_of, word_after, is_racy, becomes_racy, new_reports, reported_after, after}
 use Rattle.hg_model.proofs.Reported.{words_lem}
-use Rattle.hg_shards.specs.Asking.{accessed}
-use Rattle.hg_shards.specs.Alike.{Touch, Untouched, ReadBy, WrittenBy, Renewed, touch, is_of_memory, DoTheSame, AreAlike, ContentsAgree, PassesBy, reports_within}
+use Rattle.hg_shards.specs.Asking.{accessed, asked_after}
+use Rattle.hg_shards.specs.Alike.{Touch, Untouched, ReadBy, WrittenBy, Renewed, touch, is_of_memory, DoTheSame, AreAlike, ContentsAgree, PassesBy, StaysWithin, reports_within}
 use Rattle.hg_shards.specs.Laws.{StepAgrees, with_one_more}
-use Rattle.hg_shards.proofs.Asking.{same_words, flat_passing}
-use Rattle.hg_detect.specs.Making.{sets_in}
+use Rattle.hg_shards.proofs.Asking.{same_words, flat_passing, kept, own_words, own_asked, each_report}
+use Rattle.hg_detect.specs.Making.{sets_asked, sets_in}
 use Rattle.hg_shards.proofs.Rules.{opens_none, opened_alike}
 use Rattle.hg_shards.proofs.Lives.{same_touch}
 use Rattle.hg_shards.proofs.Sets.{each_member, has_first}
@@ -132,3 +132,12 @@ module _ (within : ℕ → Bool) where
       nothing : (ws : List ℕ) → ((w : ℕ) → contains ws w ≡ true → ⊥) → ws ≡ []
       nothing [] none = refl
       nothing (w ∷ ws) none = absurd (none w (has_first w ws))
+
+  pub own_events_lem : (c : Content) (e : Event) → StaysWithin within e → (reports_within within (new_reports c e) ≡ new_reports c e) × (sets_asked c e ≡ asked_after within c e)
+  own_events_lem c e own = (
+    ap (reports_within within) (new_by c e)
+        ∙ kept (λ (r : Report). within (r.word / 4)) (map (λ w. report_after c e (touch w e) w) (filter (becomes_racy c e) (accessed e)))
+        (each_report within (λ w. report_after c e (touch w e) w) (λ w. refl) (filter (becomes_racy c e) (accessed e)) (each_filter (λ w. within w ≡ true) (becomes_racy c e) (accessed e) (own_words within e own)))
+        ∙ sym (new_by c e),
+    own_asked within c e own,
+  )

@@ -1,6 +1,5 @@
 -- Traces that do the same to the words of a group, whatever they do to other words. A group is given as a test of words.
 use Rattle.std.specs.Prelude.{◌≡◌, ◌⊎◌, ℕ, ◌/◌, Bool, true, false, List, [], ◌∷◌, filter, map, if◌then◌else◌}
-use Rattle.std.specs.List.{AllByRecursion}
 use Rattle.hg_model.specs.declared.event.Event.{Event}
 use Rattle.hg_model.specs.declared.event.Event.TheVariants.{Read, Write, Alloc, Free}
 use Rattle.hg_model.specs.declared.event.Named.{Named}
@@ -66,9 +65,9 @@ pub record PassesBy (within : ℕ → Bool) (e : Event) : Type 0 where
   pub memory : is_of_memory e ≡ true
   pub nothing : (w : ℕ) → within w ≡ true → touch w e ≡ Untouched
 
--- No event of the trace touches a word outside the group.
-abbrev pub IsOwn : (ℕ → Bool) → List Event → Type 0
-IsOwn within trace = AllByRecursion (λ e. (w : ℕ) → within w ≡ false → touch w e ≡ Untouched) trace
+-- The event touches no word outside the group.
+abbrev pub StaysWithin : (ℕ → Bool) → Event → Type 0
+StaysWithin within e = (w : ℕ) → within w ≡ false → touch w e ≡ Untouched
 
 -- the reports of words of the group
 abbrev pub reports_within : (ℕ → Bool) → List Report → List Report

@@ -1,5 +1,5 @@
 -- The laws of a trace and its parts, which empty public functions promise.
-use Rattle.std.specs.Prelude.{◌≡◌, ℕ, ◌+◌, ◌<◌, ◌≤◌, Bool, true, List, [], ◌∷◌, length, Some, None}
+use Rattle.std.specs.Prelude.{◌≡◌, ℕ, ◌+◌, ◌<◌, ◌≤◌, Bool, true, List, [], ◌∷◌, ◌++◌, length, Some, None}
 use Rattle.hg_model.specs.declared.event.Event.{Event}
 use Rattle.hg_model.specs.declared.report.Report.{Report}
 use Rattle.hg_model.specs.Locks.{held}
@@ -18,7 +18,7 @@ use Rattle.hg_detect.specs.Making.{sets_asked}
 use Rattle.hg_shards.specs.Asking.{AnswersBySets, AsksForTrace, HasSets, HaveTogether, anywhere, asked, asked_after, asked_at_last, sets_by_part, size_with}
 use Rattle.hg_shards.specs.Merging.{Rises}
 use Rattle.hg_shards.specs.Parts.{AreParts, MakeTheWhole, reports_by_part}
-use Rattle.hg_shards.specs.Alike.{AreAlike, AgreeWithin, AgreeByName, ContentsAgree, IsOwn, MayStandFor, PassesBy, reports_within}
+use Rattle.hg_shards.specs.Alike.{AreAlike, AgreeWithin, AgreeByName, ContentsAgree, MayStandFor, PassesBy, StaysWithin, reports_within}
 
 -- The two traces have the same segments, threads and held locks, and for each word of the group the same history, state and
 -- reports, those at the last event and all.
@@ -79,9 +79,11 @@ abbrev pub PassingChangesNothing : Type 0
 PassingChangesNothing = (within : ℕ → Bool) (c : Content) (n : Named) → PassesBy within n.event →
     ContentsAgree within (after c n) (with_one_more c) × (reports_within within (new_reports c n.event) ≡ [])
 
--- The reports of a trace rise, by event and then by word.
-abbrev pub ReportsRise : Type 0
-ReportsRise = (trace : List Event) → Rises (all_reports trace)
+-- The reports of a trace rise, by event and then by word, and so does each stretch of reports that rise.
+pub record ReportsRise : Type 0 where
+  pub all : (trace : List Event) → Rises (all_reports trace)
+  pub front : (reports more : List Report) → Rises (reports ++ more) → Rises reports
+  pub rest : (reports more : List Report) → Rises (reports ++ more) → Rises more
 
 -- The reports of the parts make those of the trace, all of them and those at the last event.
 abbrev pub PartsMakeTheWhole : Type 0
@@ -112,10 +114,11 @@ FullByTheSets = (limit : ℕ) (trace : List Named) (table : Table) → 0 < limit
     (length table.sets ≡ size_with (asked anywhere (events_of trace))) × (length table.sets ≤ limit))
     × (AsksForTrace (first_table limit) trace (Some Full) table → limit < size_with (asked anywhere (events_of trace)))
 
--- An accepted event asks for the sets that its words have after it.
+-- An accepted event asks for the sets that its words have after it, those of any group and all.
 abbrev pub SetsAreOfTheWords : Type 0
 SetsAreOfTheWords = (n : Named) (past : List Named) → IsAccepted (n ∷ past) →
-    sets_asked (summary past) n.event ≡ asked_at_last anywhere (events_of (n ∷ past))
+    ((within : ℕ → Bool) → asked_after within (summary past) n.event ≡ asked_at_last within (events_of (n ∷ past)))
+    × (sets_asked (summary past) n.event ≡ asked_at_last anywhere (events_of (n ∷ past)))
 
 -- The first table has the empty set alone, and each table answers by the sets that it was asked for.
 abbrev pub TablesAnswerBySets : Type 0
@@ -123,7 +126,7 @@ TablesAnswerBySets = (limit : ℕ) → 0 < limit →
     HasSets limit [] (first_table limit)
     × ((sets more : List (List ℕ)) (t : Table) → HasSets limit sets t → AnswersBySets limit sets more t)
 
--- A trace that touches the words of a group alone has no reports of others, and asks for no sets of others.
-abbrev pub OwnTracesStayWithin : Type 0
-OwnTracesStayWithin = (within : ℕ → Bool) (trace : List Event) → IsOwn within trace →
-    (reports_within within (all_reports trace) ≡ all_reports trace) × (asked within trace ≡ asked anywhere trace)
+-- An event that stays within a group has all its reports there, and asks for no sets of other words.
+abbrev pub OwnEventsStayWithin : Type 0
+OwnEventsStayWithin = (within : ℕ → Bool) (c : Content) (e : Event) → StaysWithin within e →
+    (reports_within within (new_reports c e) ≡ new_reports c e) × (sets_asked c e ≡ asked_after within c e)

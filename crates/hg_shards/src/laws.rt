@@ -1,6 +1,6 @@
 //! Laws of a trace and its parts, each the promise of a function without a body.
 
-ghost use Rattle.hg_shards.specs.Laws.{AgreementIsLawful, OtherWordsDoNotMatter, VerdictsNeedNoAccess, CutEventsAreAccepted, SummariesAgree, StepsAgree, PassingChangesNothing, ReportsRise, PartsMakeTheWhole, SharesMakeTheWhole, OtherWordsAskForOtherSets, PartsAskForTheSets, FullByTheSets, SetsAreOfTheWords, TablesAnswerBySets, OwnTracesStayWithin};
+ghost use Rattle.hg_shards.specs.Laws.{AgreementIsLawful, OtherWordsDoNotMatter, VerdictsNeedNoAccess, CutEventsAreAccepted, SummariesAgree, StepsAgree, PassingChangesNothing, ReportsRise, PartsMakeTheWhole, SharesMakeTheWhole, OtherWordsAskForOtherSets, PartsAskForTheSets, FullByTheSets, SetsAreOfTheWords, TablesAnswerBySets, OwnEventsStayWithin};
 
 /// Each trace agrees with itself within any group of words. Agreement goes both ways, from trace to trace, and down to
 /// smaller groups.
@@ -41,7 +41,7 @@ pub fn passing_changes_nothing()
     ensures { PassingChangesNothing }
 {}
 
-/// The reports of a trace rise, by event and then by word.
+/// The reports of a trace rise, by event and then by word, and so does each stretch of them.
 pub fn reports_rise()
     ensures { ReportsRise }
 {}
@@ -74,7 +74,7 @@ pub fn full_by_the_sets()
     ensures { FullByTheSets }
 {}
 
-/// An accepted event asks for the sets of threads and locks that its words have after it.
+/// An accepted event asks for the sets of threads and locks that its words have after it, for the words of any group too.
 pub fn sets_are_of_the_words()
     ensures { SetsAreOfTheWords }
 {}
@@ -85,7 +85,7 @@ pub fn tables_answer_by_sets()
     ensures { TablesAnswerBySets }
 {}
 
-/// A trace that touches the words of a group alone has reports of these words alone, and asks for their sets alone.
-pub fn own_traces_stay_within()
-    ensures { OwnTracesStayWithin }
+/// An event that touches no word outside a group has reports of words of the group alone, and asks for their sets alone.
+pub fn own_events_stay_within()
+    ensures { OwnEventsStayWithin }
 {}
