@@ -15,3 +15,4 @@ pub mod Asking
 pub mod Agreement
 pub mod Cuts
 pub mod Leaving
+mod Rows
