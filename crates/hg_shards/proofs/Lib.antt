@@ -1,0 +1,18 @@
+pub mod Rules
+pub mod Lives
+pub mod Sets
+pub mod Reports
+pub mod Verdicts
+pub mod Steps
+pub mod Order
+pub mod Rising
+pub mod Merging
+pub mod Parts
+pub mod Taking
+pub mod Counting
+pub mod Tables
+pub mod Asking
+pub mod Agreement
+pub mod Cuts
+pub mod Leaving
+mod Rows

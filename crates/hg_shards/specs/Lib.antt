@@ -1,0 +1,5 @@
+pub mod Alike
+pub mod Merging
+pub mod Parts
+pub mod Asking
+pub mod Laws

@@ -1,0 +1,5 @@
+//! The laws by which a trace is judged in parts, each of them the words of some pages, and the reports of the parts are merged.
+#![tactic(auto)]
+
+pub mod laws;
+pub mod merge;
