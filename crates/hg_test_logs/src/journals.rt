@@ -57,8 +57,16 @@ fn opened(answer: Result<Journal<TestDisk>, (Refusal, TestDisk)>) -> Opened {
     }
 }
 
-/// Makes a journal or a spare file on a disk without a byte.
-fn create(alloc: Global, disk: TestDisk, token: &str) -> Opened {
+/// Makes a journal without a base on a disk without a byte.
+fn create(alloc: Global, disk: TestDisk) -> Opened {
+    if disk.len() > 0 {
+        return Err((Halt::NotEmpty, disk));
+    }
+    opened(Journal::create(alloc, disk))
+}
+
+/// Makes a file that may be spare on a disk without a byte.
+fn create_file(alloc: Global, disk: TestDisk, token: &str) -> Opened {
     if disk.len() > 0 {
         return Err((Halt::NotEmpty, disk));
     }
@@ -68,8 +76,7 @@ fn create(alloc: Global, disk: TestDisk, token: &str) -> Opened {
     };
     match token {
         "create-spare" => opened(Journal::create_spare(room, disk)),
-        "create-open" => opened(Journal::create_open(room, disk)),
-        _ => opened(Journal::create_in(room, disk)),
+        _ => opened(Journal::create_open(room, disk)),
     }
 }
 
@@ -93,7 +100,8 @@ fn open(alloc: Global, disk: TestDisk, token: &str, out: &mut Text) -> Opened {
     match token {
         "attach" => opened(Journal::attach(alloc, disk)),
         "attach-file" => attach_file(alloc, disk, out),
-        _ => create(alloc, disk, token),
+        "create" => create(alloc, disk),
+        _ => create_file(alloc, disk, token),
     }
 }
 

@@ -89,8 +89,16 @@ fn opened(answer: Result<Log<TestDisk>, (GateFault, TestDisk)>) -> Opened {
     }
 }
 
-/// Makes a log or a spare file on a disk without a byte.
-fn create(alloc: Global, disk: TestDisk, token: &str) -> Opened {
+/// Makes a log without a base on a disk without a byte.
+fn create(alloc: Global, disk: TestDisk) -> Opened {
+    if disk.len() > 0 {
+        return Err((Halt::NotEmpty, disk));
+    }
+    opened(Log::create(alloc, disk))
+}
+
+/// Makes a file that may be spare on a disk without a byte.
+fn create_file(alloc: Global, disk: TestDisk, token: &str) -> Opened {
     if disk.len() > 0 {
         return Err((Halt::NotEmpty, disk));
     }
@@ -100,8 +108,7 @@ fn create(alloc: Global, disk: TestDisk, token: &str) -> Opened {
     };
     match token {
         "create-spare" => opened(Log::create_spare(room, disk)),
-        "create-open" => opened(Log::create_open(room, disk)),
-        _ => opened(Log::create_in(room, disk)),
+        _ => opened(Log::create_open(room, disk)),
     }
 }
 
@@ -125,7 +132,8 @@ fn open(alloc: Global, disk: TestDisk, token: &str, out: &mut Text) -> Opened {
     match token {
         "attach" => opened(Log::attach(alloc, disk)),
         "attach-file" => attach_file(alloc, disk, out),
-        _ => create(alloc, disk, token),
+        "create" => create(alloc, disk),
+        _ => create_file(alloc, disk, token),
     }
 }
 
