@@ -1,8 +1,11 @@
 //! What the lines of a scenario do with a journal of events. It stands on the disk of the journal.
 
+use crate::base::base_of;
 use hg_disk::Disk;
-use hg_journal::journal::{Journal, JournalReader, MAX_BATCH_EVENTS};
+use hg_journal::file::Attached;
+use hg_journal::journal::{Journal, JournalReader, JournalRoom, MAX_BATCH_EVENTS};
 use hg_model::event::Named;
+use hg_model::verdict::Refusal;
 use hg_test_kit::device::Device;
 use hg_test_kit::events::{put_events, put_named};
 use hg_test_kit::shelf::{Shelf, TestDisk};
@@ -43,23 +46,62 @@ fn append(journal: &mut Journal<TestDisk>, batch: &[Named], out: &mut Text) -> R
     Ok(journal.append(batch)?)
 }
 
-/// Makes a journal on a disk without a byte, or attaches one. A refusal hands the disk back.
-fn open(
-    alloc: Global,
-    disk: TestDisk,
-    is_new: bool,
-) -> Result<Journal<TestDisk>, (Halt, TestDisk)> {
-    let opened = if is_new {
-        if disk.len() > 0 {
-            return Err((Halt::NotEmpty, disk));
-        }
-        Journal::create(alloc, disk)
-    } else {
-        Journal::attach(alloc, disk)
-    };
-    match opened {
+/// A journal, or why there is none and its disk.
+type Opened = Result<Journal<TestDisk>, (Halt, TestDisk)>;
+
+/// A journal, or why it was refused.
+fn opened(answer: Result<Journal<TestDisk>, (Refusal, TestDisk)>) -> Opened {
+    match answer {
         Ok(journal) => Ok(journal),
         Err((refusal, disk)) => Err((Halt::Refused(refusal), disk)),
+    }
+}
+
+/// Makes a journal without a base on a disk without a byte.
+fn create(alloc: Global, disk: TestDisk) -> Opened {
+    if disk.len() > 0 {
+        return Err((Halt::NotEmpty, disk));
+    }
+    opened(Journal::create(alloc, disk))
+}
+
+/// Makes a file that may be spare on a disk without a byte.
+fn create_file(alloc: Global, disk: TestDisk, token: &str) -> Opened {
+    if disk.len() > 0 {
+        return Err((Halt::NotEmpty, disk));
+    }
+    let room = match JournalRoom::new(alloc) {
+        Ok(room) => room,
+        Err(AllocError) => return Err((Halt::Memory, disk)),
+    };
+    match token {
+        "create-spare" => opened(Journal::create_spare(room, disk)),
+        _ => opened(Journal::create_open(room, disk)),
+    }
+}
+
+/// Attaches a file that may be spare, and tells what it has.
+fn attach_file(alloc: Global, disk: TestDisk, out: &mut Text) -> Opened {
+    match Journal::attach_file(alloc, disk) {
+        Ok(Attached::Spare(journal)) => {
+            out.put(b"spare");
+            Ok(journal)
+        }
+        Ok(Attached::Open(base, journal)) => {
+            out.put_number(b"open ", base);
+            Ok(journal)
+        }
+        Err((refusal, disk)) => Err((Halt::Refused(refusal), disk)),
+    }
+}
+
+/// Makes or attaches a journal. A refusal hands the disk back.
+fn open(alloc: Global, disk: TestDisk, token: &str, out: &mut Text) -> Opened {
+    match token {
+        "attach" => opened(Journal::attach(alloc, disk)),
+        "attach-file" => attach_file(alloc, disk, out),
+        "create" => create(alloc, disk),
+        _ => create_file(alloc, disk, token),
     }
 }
 
@@ -92,9 +134,15 @@ impl JournalBench {
     }
 
     /// Makes or attaches a journal, or puts the disk of a refused one back.
-    fn open(&mut self, alloc: Global, shelf: &mut Shelf, is_new: bool) -> Result<(), Halt> {
+    fn open(
+        &mut self,
+        alloc: Global,
+        shelf: &mut Shelf,
+        token: &str,
+        out: &mut Text,
+    ) -> Result<(), Halt> {
         self.close(shelf)?;
-        match open(alloc, shelf.take(alloc, Device::Journal)?, is_new) {
+        match open(alloc, shelf.take(alloc, Device::Journal)?, token, out) {
             Ok(journal) => {
                 self.put_opened(Some(journal));
                 Ok(())
@@ -107,7 +155,7 @@ impl JournalBench {
     }
 
     /// Does what a line asks of the open journal.
-    fn work(&mut self, token: &str, out: &mut Text) -> Result<(), Halt> {
+    fn work(&mut self, token: &str, rest: &str, out: &mut Text) -> Result<(), Halt> {
         let Some(journal) = &mut self.opened else {
             return Err(Halt::Closed);
         };
@@ -117,6 +165,8 @@ impl JournalBench {
                 self.batch.clear();
                 appended
             }
+            "open" => Ok(journal.open(base_of(rest, out)?)?),
+            "close" => Ok(journal.close()?),
             "first" => {
                 self.reader = Some(journal.events()?);
                 Ok(())
@@ -136,10 +186,11 @@ impl JournalBench {
     ) -> Result<(), Halt> {
         let (token, rest) = front(text);
         match token {
-            "create" => self.open(alloc, shelf, true),
-            "attach" => self.open(alloc, shelf, false),
+            "create" | "create-spare" | "create-open" | "attach" | "attach-file" => {
+                self.open(alloc, shelf, token, out)
+            }
             "event" => put_events(rest, &mut self.batch),
-            _ => self.work(token, out),
+            _ => self.work(token, rest, out),
         }
     }
 }

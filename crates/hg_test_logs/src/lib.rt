@@ -1,6 +1,7 @@
 //! Scenarios of logs, journals and gated files over disks in memory (tests/scenarios).
 #![tactic(auto)]
 
+mod base;
 mod gates;
 mod journals;
 mod logs;
@@ -61,6 +62,7 @@ impl World for Files {
         match token {
             "close" => Ok(self.close()?),
             "crash" => self.crash(rest),
+            "tear" => shelf.tear_by(rest),
             "disk" => shelf.set(rest),
             "fail" => shelf.fail(rest),
             "bytes" | "length" | "calls" => shelf.tell(token, rest, out),

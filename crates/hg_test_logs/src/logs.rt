@@ -1,7 +1,8 @@
 //! What the lines of a scenario do with a log of batches. It stands on the disk of the journal.
 
+use crate::base::base_of;
 use hg_disk::Disk;
-use hg_gate::{Batch, Log, LogReader};
+use hg_gate::{Batch, GateFault, Log, LogFile, LogReader, LogRoom};
 use hg_test_kit::answers::put_bytes;
 use hg_test_kit::device::Device;
 use hg_test_kit::shelf::{Shelf, TestDisk};
@@ -77,19 +78,62 @@ fn put_next(
     Ok(())
 }
 
-/// Makes a log on a disk without a byte, or attaches one. A refusal hands the disk back.
-fn open(alloc: Global, disk: TestDisk, is_new: bool) -> Result<Log<TestDisk>, (Halt, TestDisk)> {
-    let opened = if is_new {
-        if disk.len() > 0 {
-            return Err((Halt::NotEmpty, disk));
-        }
-        Log::create(alloc, disk)
-    } else {
-        Log::attach(alloc, disk)
-    };
-    match opened {
+/// A log, or why there is none and its disk.
+type Opened = Result<Log<TestDisk>, (Halt, TestDisk)>;
+
+/// A log, or why it was refused.
+fn opened(answer: Result<Log<TestDisk>, (GateFault, TestDisk)>) -> Opened {
+    match answer {
         Ok(log) => Ok(log),
         Err((fault, disk)) => Err((Halt::Fault(fault), disk)),
+    }
+}
+
+/// Makes a log without a base on a disk without a byte.
+fn create(alloc: Global, disk: TestDisk) -> Opened {
+    if disk.len() > 0 {
+        return Err((Halt::NotEmpty, disk));
+    }
+    opened(Log::create(alloc, disk))
+}
+
+/// Makes a file that may be spare on a disk without a byte.
+fn create_file(alloc: Global, disk: TestDisk, token: &str) -> Opened {
+    if disk.len() > 0 {
+        return Err((Halt::NotEmpty, disk));
+    }
+    let room = match LogRoom::new(alloc) {
+        Ok(room) => room,
+        Err(AllocError) => return Err((Halt::Memory, disk)),
+    };
+    match token {
+        "create-spare" => opened(Log::create_spare(room, disk)),
+        _ => opened(Log::create_open(room, disk)),
+    }
+}
+
+/// Attaches a file that may be spare, and tells what it has.
+fn attach_file(alloc: Global, disk: TestDisk, out: &mut Text) -> Opened {
+    match Log::attach_file(alloc, disk) {
+        Ok(LogFile::Spare(log)) => {
+            out.put(b"spare");
+            Ok(log)
+        }
+        Ok(LogFile::Open(base, log)) => {
+            out.put_number(b"open ", base);
+            Ok(log)
+        }
+        Err((fault, disk)) => Err((Halt::Fault(fault), disk)),
+    }
+}
+
+/// Makes or attaches a log. A refusal hands the disk back.
+fn open(alloc: Global, disk: TestDisk, token: &str, out: &mut Text) -> Opened {
+    match token {
+        "attach" => opened(Log::attach(alloc, disk)),
+        "attach-file" => attach_file(alloc, disk, out),
+        "create" => create(alloc, disk),
+        _ => create_file(alloc, disk, token),
     }
 }
 
@@ -120,9 +164,15 @@ impl LogBench {
     }
 
     /// Makes or attaches a log, or puts the disk of a refused one back.
-    fn open(&mut self, alloc: Global, shelf: &mut Shelf, is_new: bool) -> Result<(), Halt> {
+    fn open(
+        &mut self,
+        alloc: Global,
+        shelf: &mut Shelf,
+        token: &str,
+        out: &mut Text,
+    ) -> Result<(), Halt> {
         self.close(shelf)?;
-        match open(alloc, shelf.take(alloc, Device::Journal)?, is_new) {
+        match open(alloc, shelf.take(alloc, Device::Journal)?, token, out) {
             Ok(log) => {
                 self.put_opened(Some(log));
                 Ok(())
@@ -141,6 +191,8 @@ impl LogBench {
         };
         match token {
             "append" => append(alloc, log, rest, out),
+            "open" => Ok(log.open(base_of(rest, out)?)?),
+            "close" => Ok(log.close()?),
             "first" => {
                 self.reader = Some(log.reader()?);
                 Ok(())
@@ -161,8 +213,9 @@ impl LogBench {
     ) -> Result<(), Halt> {
         let (token, rest) = front(text);
         match token {
-            "create" => self.open(alloc, shelf, true),
-            "attach" => self.open(alloc, shelf, false),
+            "create" | "create-spare" | "create-open" | "attach" | "attach-file" => {
+                self.open(alloc, shelf, token, out)
+            }
             _ => self.work(alloc, token, rest, out),
         }
     }
