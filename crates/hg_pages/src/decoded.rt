@@ -1,5 +1,5 @@
 //! The bytes of a slot as a page.
-ghost use Rattle.std.specs.Prelude.{◌≡◌, ◌⊎◌, ◌↔◌, ◌<◌, ◌≤◌, length, take, false, IfSome, IfNone, IsTrue};
+ghost use Rattle.std.specs.Prelude.{◌≡◌, ◌⊎◌, ◌↔◌, ◌+◌, ◌<◌, ◌≤◌, ℕ, List, length, take, false, IfSome, IfNone, IsTrue};
 ghost use Rattle.std.specs.Int.{w64, to_be_bytes};
 ghost use Rattle.hg_pages.specs.Numbers.{AreOfNoneWithin, AreRead, HasNoShared, HaveThreadSets, LacksThreadSet};
 ghost use Rattle.hg_pages.specs.Reading.{cell_bytes};
@@ -15,6 +15,9 @@ pub const MOST_PAGES: u64 = 1 << 54;
 
 // Where the cells begin, behind the number of the page.
 const CELLS_AT: usize = 8;
+
+// How many words are asked together whether one of them is shared.
+const GROUP_WORDS: usize = 16;
 
 /// The number of the page, as the bytes have it.
 pub(crate) fn page_in(bytes: &[u8]) -> u64
@@ -103,18 +106,54 @@ fn read_cells(bytes: &[u8], segments: u32, sets: u32, cells: &mut Page) -> (bool
     (are_right, has_shared)
 }
 
-// Whether the threads of each shared cell can be. No branch depends on a cell.
+// Whether some cell of a group, from this word on, is shared. If none is, the threads of each of the group can be. No branch
+// depends on a cell.
+#[inline(always)]
+fn has_shared_from(bytes: &[u8], from: usize) -> bool
+    requires length { length bytes.now ≡ SLOT_LEN }
+    requires within { from + GROUP_WORDS ≤ 256 }
+    ensures none { result ≡ false → (s : List (List ℕ)) →
+        HaveThreadSets s from bytes.now → HaveThreadSets s (from + GROUP_WORDS) bytes.now }
+{
+    let mut has_shared = false;
+    for word in from..from + GROUP_WORDS {
+        let numbers = numbers_in(cell_part(bytes, word));
+        let is_shared = are_of_shared(numbers);
+        has_shared = has_shared | is_shared;
+    }
+    has_shared
+}
+
+// Whether the threads of each shared cell of a group, from this word on, can be. No branch depends on a cell.
+#[inline(always)]
+fn have_thread_sets_from(bytes: &[u8], sets: &SetTable, from: usize) -> bool
+    requires length { length bytes.now ≡ SLOT_LEN }
+    requires within { from + GROUP_WORDS ≤ 256 }
+    ensures yes { IsTrue result →
+        HaveThreadSets sets.now.sets from bytes.now → HaveThreadSets sets.now.sets (from + GROUP_WORDS) bytes.now }
+    ensures no { result ≡ false → LacksThreadSet sets.now.sets bytes.now }
+{
+    let _sets = sets.len();
+    let mut have_all = true;
+    for word in from..from + GROUP_WORDS {
+        let has_one = has_threads(cell_part(bytes, word), sets);
+        have_all = have_all & has_one;
+    }
+    have_all
+}
+
+// Whether the threads of each shared cell can be. A group of words none of which is shared is passed over.
 #[inline(always)]
 fn have_thread_sets(bytes: &[u8], sets: &SetTable) -> bool
     requires { length bytes.now ≡ SLOT_LEN }
     ensures yes { IsTrue result → HaveThreadSets sets.now.sets 256 bytes.now }
     ensures no { result ≡ false → LacksThreadSet sets.now.sets bytes.now }
 {
-    let _sets = sets.len();
-    let mut have_all = true;
-    for word in 0..PAGE_WORDS {
-        let has_one = has_threads(cell_part(bytes, word), sets);
-        have_all = have_all & has_one;
+    for group in 0..PAGE_WORDS / GROUP_WORDS {
+        let from = group * GROUP_WORDS;
+        if has_shared_from(bytes, from) && !have_thread_sets_from(bytes, sets, from) {
+            return false;
+        }
     }
-    have_all
+    true
 }

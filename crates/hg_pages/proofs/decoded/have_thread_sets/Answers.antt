@@ -1,22 +1,18 @@
-use Rattle.std.proofs.Common.{◌≡◌, ◌∙◌, ℕ, false, subst, sym, ⊎_elim, arith}
-use Rattle.hg_pages.specs.Numbers.{HasThreads, HaveThreadSets}
-use Rattle.hg_pages.proofs.Reading.{both, either, sets_more}
+use Rattle.std.proofs.Common.{◌≡◌, ◌+◌, ◌*◌, ℕ, subst, arith}
+use Rattle.hg_pages.specs.Numbers.{HaveThreadSets}
+use Rattle.hg_pages.proofs.decoded.have_thread_sets.Goals.{else-has_shared_from-via-then-has_shared_from+else-not-have_thread_sets_from, else-has_shared_from-via-else-has_shared_from}
 use Rattle.hg_pages.proofs.decoded.have_thread_sets.Goals as goal
 
-pub loop-word-preserved : goal.loop-word-preserved
-loop-word-preserved c =
+pub loop-group-preserved : goal.loop-group-preserved
+loop-group-preserved c =
     let bytes = c.args.bytes.now in
     let sets = c.args.sets.now.sets in
-    record {
-      yes = λ all.
-          let are = both c.loop-word.have_all c.has_threads-has_one.result all in
-          sets_more bytes sets c.loop-word.word (c.loop-word.invariant.yes are.0)
-          (subst (HasThreads sets) c.cell_part.ensures.bytes (c.has_threads-has_one.ensures.0 are.1));
-      no = λ wrong.
-          ⊎_elim (λ (before : c.loop-word.have_all ≡ false). c.loop-word.invariant.no before)
-          (λ (here : c.has_threads-has_one.result ≡ false). (c.loop-word.word, c.loop-word-test.true, λ has. absurd (cc (sym (c.has_threads-has_one.ensures.1 (subst (HasThreads sets) (sym c.cell_part.ensures.bytes) has)) ∙ here))))
-          (either c.loop-word.have_all c.has_threads-has_one.result wrong);
-    }
+    let more : c.loop-group.group * 16 + 16 ≡ (c.loop-group.group + 1) * 16 = omega arith in
+    subst (λ (n : ℕ). HaveThreadSets sets n bytes) more
+    (elim c.else-has_shared_from.branch [
+      | else-has_shared_from-via-then-has_shared_from+else-not-have_thread_sets_from w ↦ w.have_thread_sets_from.ensures.yes w.if-not-have_thread_sets_from.false c.loop-group.invariant
+      | else-has_shared_from-via-else-has_shared_from w ↦ c.has_shared_from.ensures.none w.if-has_shared_from.false sets c.loop-group.invariant
+    ])
 
 pub returns-clause-yes : goal.returns-clause-yes
-returns-clause-yes c all = subst (λ (n : ℕ). HaveThreadSets c.args.sets.now.sets n c.args.bytes.now) (omega (arith, c.loop-word-test.false, c.loop-word.auto.word-end)) (c.loop-word.invariant.yes all)
+returns-clause-yes c _ = subst (λ (n : ℕ). HaveThreadSets c.args.sets.now.sets n c.args.bytes.now) (omega (arith, c.loop-group-test.false, c.loop-group.auto.group-end)) c.loop-group.invariant

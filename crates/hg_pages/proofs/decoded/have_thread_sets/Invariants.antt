@@ -1,9 +1,6 @@
-use Rattle.std.proofs.Common.{◌≡◌, IsTrue, false}
-use Rattle.hg_pages.specs.Numbers.{HaveThreadSets, LacksThreadSet}
+use Rattle.std.proofs.Common.{◌*◌}
+use Rattle.hg_pages.specs.Numbers.{HaveThreadSets}
 use Rattle.hg_pages.proofs.decoded.have_thread_sets.Given as goal
 
-abbrev pub invariant-loop-word : goal.invariant-loop-word
-invariant-loop-word l = record {
-  yes : IsTrue l.have_all → HaveThreadSets l.sets.sets l.word l.bytes;
-  no : l.have_all ≡ false → LacksThreadSet l.sets.sets l.bytes;
-}
+abbrev pub invariant-loop-group : goal.invariant-loop-group
+invariant-loop-group l = HaveThreadSets l.sets.sets (l.group * 16) l.bytes
