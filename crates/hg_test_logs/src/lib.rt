@@ -1,13 +1,15 @@
-//! Scenarios of logs, journals and gated files over disks in memory (tests/scenarios).
+//! Scenarios of logs, journals, pairs of journals and gated files over disks in memory (tests/scenarios).
 #![tactic(auto)]
 
 mod gates;
 mod journals;
 mod logs;
+mod pairs;
 
 use crate::gates::GateBench;
 use crate::journals::JournalBench;
 use crate::logs::LogBench;
+use crate::pairs::PairBench;
 use hg_disk::Tear;
 use hg_test_kit::run::{World, run_scenarios};
 use hg_test_kit::shelf::Shelf;
@@ -22,6 +24,7 @@ struct Files {
     shelf: Shelf,
     log: LogBench,
     journal: JournalBench,
+    pair: PairBench,
     gated: GateBench,
 }
 
@@ -33,6 +36,7 @@ impl Files {
             shelf: Shelf::new(alloc),
             log: LogBench::new(),
             journal: JournalBench::new(alloc),
+            pair: PairBench::new(alloc),
             gated: GateBench::new(),
         }
     }
@@ -41,6 +45,7 @@ impl Files {
     fn close(&mut self) -> Result<(), AllocError> {
         self.log.close(&mut self.shelf)?;
         self.journal.close(&mut self.shelf)?;
+        self.pair.close(&mut self.shelf)?;
         self.gated.close(&mut self.shelf)
     }
 
@@ -66,6 +71,7 @@ impl World for Files {
             "bytes" | "length" | "calls" => shelf.tell(token, rest, out),
             "log" => self.log.perform(alloc, shelf, rest, out),
             "journal" => self.journal.perform(alloc, shelf, rest, out),
+            "pair" => self.pair.perform(alloc, shelf, rest, out),
             "gated" => self.gated.perform(alloc, shelf, rest, out),
             _ => Err(Halt::Misspelt),
         }
@@ -75,6 +81,7 @@ impl World for Files {
         self.shelf.clear();
         self.log.clear();
         self.journal.clear();
+        self.pair.clear();
         self.gated.clear();
     }
 }
