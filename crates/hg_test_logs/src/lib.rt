@@ -1,14 +1,16 @@
-//! Scenarios of logs, journals and gated files over disks in memory (tests/scenarios).
+//! Scenarios of logs, journals, pairs of journals and gated files over disks in memory (tests/scenarios).
 #![tactic(auto)]
 
 mod base;
 mod gates;
 mod journals;
 mod logs;
+mod pairs;
 
 use crate::gates::GateBench;
 use crate::journals::JournalBench;
 use crate::logs::LogBench;
+use crate::pairs::PairBench;
 use hg_disk::Tear;
 use hg_test_kit::run::{World, run_scenarios};
 use hg_test_kit::shelf::Shelf;
@@ -23,6 +25,7 @@ struct Files {
     shelf: Shelf,
     log: LogBench,
     journal: JournalBench,
+    pair: PairBench,
     gated: GateBench,
 }
 
@@ -34,6 +37,7 @@ impl Files {
             shelf: Shelf::new(alloc),
             log: LogBench::new(),
             journal: JournalBench::new(alloc),
+            pair: PairBench::new(alloc),
             gated: GateBench::new(),
         }
     }
@@ -42,6 +46,7 @@ impl Files {
     fn close(&mut self) -> Result<(), AllocError> {
         self.log.close(&mut self.shelf)?;
         self.journal.close(&mut self.shelf)?;
+        self.pair.close(&mut self.shelf)?;
         self.gated.close(&mut self.shelf)
     }
 
@@ -68,6 +73,7 @@ impl World for Files {
             "bytes" | "length" | "calls" => shelf.tell(token, rest, out),
             "log" => self.log.perform(alloc, shelf, rest, out),
             "journal" => self.journal.perform(alloc, shelf, rest, out),
+            "pair" => self.pair.perform(alloc, shelf, rest, out),
             "gated" => self.gated.perform(alloc, shelf, rest, out),
             _ => Err(Halt::Misspelt),
         }
@@ -77,6 +83,7 @@ impl World for Files {
         self.shelf.clear();
         self.log.clear();
         self.journal.clear();
+        self.pair.clear();
         self.gated.clear();
     }
 }
