@@ -10,4 +10,5 @@ pub mod TakingLaws
 pub mod Stepping
 pub mod Storing
 pub mod Listings
+pub mod Offering
 pub mod Races

@@ -17,11 +17,13 @@ ghost use Rattle.hg_commands.specs.Storing.{EndsFlushed};
 use crate::lines::{Fed, Feeding};
 use crate::listing::hold_end_line;
 use crate::moment::{Moment, Outcome};
+use crate::offering::EventParts;
 use crate::settings::FeedSettings;
 use hg_disk::Disk;
+use hg_model::event::Hold;
 use hg_model::verdict::Refusal;
 use hg_reading::ending::{Ending, ended, hold_stop, status_of_end};
-use hg_reading::sink::{Sink, access_event};
+use hg_reading::sink::Sink;
 use hg_reading::whole::read;
 use hg_store::devices::{Caps, Devices};
 use hg_store::store::Store;
@@ -54,17 +56,28 @@ impl<D: Disk, W: Write> Sink<W> for Feeding<D, W> {
         self.feed_reading(reading, output)
     }
 
+    #[inline(always)]
     fn offer_access(
         &mut self,
         line: u64,
         found: &AccessLine,
         output: &mut Output<W>,
     ) -> Result<Option<Ending>, Refusal> {
-        let reading = Reading {
-            line,
-            event: Ok(access_event(found)),
+        let parts = EventParts::Access {
+            access: found.access,
+            write: found.is_write,
         };
-        self.feed_reading(&reading, output)
+        self.feed_event(line, parts, output)
+    }
+
+    #[inline(always)]
+    fn offer_hold(
+        &mut self,
+        line: u64,
+        hold: Hold,
+        output: &mut Output<W>,
+    ) -> Result<Option<Ending>, Refusal> {
+        self.feed_event(line, EventParts::Hold(hold), output)
     }
 
     /// Prints nothing: each line printed its own text.

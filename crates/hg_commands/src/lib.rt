@@ -8,5 +8,6 @@ pub mod laws;
 pub mod lines;
 pub mod listing;
 pub mod moment;
+mod offering;
 pub mod races;
 pub mod settings;

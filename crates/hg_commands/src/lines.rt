@@ -8,11 +8,12 @@ ghost use Rattle.hg_streams.specs.Faults.{IsStreamFault};
 ghost use Rattle.hg_streams.specs.Printed.{IsPrintedNow};
 ghost use Rattle.hg_commands.specs.Stepping.{BreaksWhere, Counted, EndsWhere, Failed, KeepsToWay, PassesWhere, StaysKept, ack_due, ack_of};
 ghost use Rattle.hg_commands.specs.FeedFaults.{IsLineFault};
+ghost use Rattle.hg_commands.specs.Offering.{event_of, reading_of};
 
 use crate::moment::Moment;
+use crate::offering::{EventParts, offer_parts};
 use hg_detect::detector::Answer;
 use hg_disk::Disk;
-use hg_model::event::{Event, Named};
 use hg_model::verdict::Refusal;
 use hg_reading::ending::Ending;
 use hg_store::store::Store;
@@ -85,23 +86,48 @@ impl<D: Disk, W: Write> Feeding<D, W> {
     }
 
     /// Offers an event as the next one of its source.
-    fn send(&mut self, event: Event, output: &Output<W>) -> Result<Answer, Refusal>
+    #[inline(always)]
+    fn send(&mut self, parts: EventParts, output: &Output<W>) -> Result<Answer, Refusal>
         requires room { self.old.fed.number + 1 < 2 ^ 64 }
-        ensures sent { WasSent ⟦<D as Disk>⟧ self.old.store self.new.store self.old.fed self.new.fed event result }
+        ensures sent { WasSent ⟦<D as Disk>⟧ self.old.store self.new.store self.old.fed self.new.fed (event_of parts) result }
         ensures kept { StaysKept ⟦<D as Disk>⟧ self.old output.now self.new output.now }
     {
         self.fed.number += 1;
-        let answer = self.store.offer(&Named {
-            source: self.fed.source,
-            number: self.fed.number,
-            event,
-        });
+        let answer = offer_parts(&mut self.store, self.fed.source, self.fed.number, parts);
         self.store.stands();
         self.moments.push(Moment::of(&self.store, output));
         answer
     }
 
     /// Offers the event of a line. `None` says that it was accepted, or was sent before.
+    #[inline(always)]
+    pub(crate) fn feed_event(
+        &mut self,
+        line: u64,
+        parts: EventParts,
+        output: &mut Output<W>,
+    ) -> Result<Option<Ending>, Refusal>
+        requires ready { IsReady self.old.store self.old.fed }
+        requires room { self.old.fed.number + 1 < 2 ^ 64 }
+        ensures passes { PassesWhere ⟦<D as Disk>⟧ (reading_of line parts) self.old output.old result self.new output.new }
+        ensures ends { EndsWhere ⟦<D as Disk>⟧ (reading_of line parts) self.old output.old result self.new output.new }
+        ensures front { BreaksWhere ⟦<D as Disk>⟧ (reading_of line parts) self.old output.old result output.new }
+        ensures way { KeepsToWay ⟦<D as Disk>⟧ (reading_of line parts) self.old output.old self.new output.new }
+        ensures cause { IfErr result (IsLineFault ⟦<D as Disk>⟧) }
+        ensures fault { Failed ⟦<D as Disk>⟧ (told result) self.old output.old self.new output.new }
+        ensures kept { StaysKept ⟦<D as Disk>⟧ self.old output.old self.new output.new }
+    {
+        match self.send(parts, &*output) {
+            Ok(Answer::Accepted) => {
+                self.count_accepted(output)?;
+                Ok(None)
+            }
+            Ok(Answer::Duplicate(_)) => Ok(None),
+            Err(refusal) => end_line(line, refusal),
+        }
+    }
+
+    /// Offers the event of a line that was read whole, and answers as `feed_event` does. A line without an event ends the feeding.
     pub(crate) fn feed_reading(
         &mut self,
         reading: &Reading,
@@ -121,14 +147,7 @@ impl<D: Disk, W: Write> Feeding<D, W> {
         let Ok(event) = reading.event else {
             return Ok(Some(Ending::Bad { line }));
         };
-        match self.send(event, &*output) {
-            Ok(Answer::Accepted) => {
-                self.count_accepted(output)?;
-                Ok(None)
-            }
-            Ok(Answer::Duplicate(_)) => Ok(None),
-            Err(refusal) => end_line(line, refusal),
-        }
+        self.feed_event(line, EventParts::Whole(event), output)
     }
 }
 

@@ -20,3 +20,4 @@ pub mod Making
 pub mod Telling
 pub mod Refusals
 pub mod Loading
+pub mod Offered

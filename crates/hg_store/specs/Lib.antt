@@ -4,6 +4,7 @@ pub mod Store
 pub mod Kept
 pub mod Answers
 pub mod Steps
+pub mod Offers
 pub mod Paging
 pub mod Doing
 pub mod Runs

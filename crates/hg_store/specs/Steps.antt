@@ -37,6 +37,10 @@ ByVerdict Accept pending result = cond (nat_le MOST_PENDING pending) (result ≡
 abbrev pub OfferAnswers : Content → Bool → ℕ → Named → Result Answer Refusal → Type 0
 OfferAnswers c is_broken pending n result = cond is_broken (result ≡ Err refusal.Broken) (ByVerdict (verdict (standing_of c) n) pending result)
 
+-- The answer of the rules alone, where no further event may wait for a commit.
+abbrev pub IsAnsweredWhenFull : {D : Type 0} → disk.Ghosts D → ShownStore D → Named → Result Answer Refusal → Type 0
+IsAnsweredWhenFull g s n result = ByVerdict (verdict (standing_of (live g s)) n) MOST_PENDING result
+
 -- the event of an offer that was answered Accepted
 abbrev pub if_accepted : Named → Result Answer Refusal → List Named
 if_accepted n (Ok Accepted) = n ∷ []

@@ -8,6 +8,7 @@ pub mod checkpoints;
 pub mod create;
 pub mod devices;
 pub mod drive;
+mod offer;
 pub mod page_number;
 pub mod paging;
 pub mod queries;

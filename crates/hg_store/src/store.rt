@@ -2,23 +2,21 @@
 
 ghost use Rattle.std.specs.Prelude.{◌≡◌, ◌≤◌, Ok, Err, true, IsTrue};
 ghost use Rattle.hg_journal.specs.Journal.{failed_after};
-ghost use Rattle.hg_store.specs.Shown.{KeepsLimits};
-ghost use Rattle.hg_store.specs.Steps.{CommitDone, ContentOffered, OfferDone};
+ghost use Rattle.hg_store.specs.Steps.{CommitDone};
 ghost use Rattle.hg_store.specs.Store.{JournalCallsAtMost, StandMeanwhile};
 ghost use Rattle.hg_store.specs.Images.{FailuresBecome};
 
 use crate::devices::Devices;
 use crate::steps::StorePhase;
 use hg_checkpoint::{Checkpointer, Phase};
-use hg_detect::detector::{Answer, Detector};
+use hg_detect::detector::Detector;
 use hg_disk::Disk;
 use hg_journal::journal::{Journal, MAX_BATCH_EVENTS};
 use hg_model::event::Named;
 use hg_model::report::Report;
 use hg_model::segment::Segment;
-use hg_model::verdict::{Refusal, Verdict};
+use hg_model::verdict::Refusal;
 use hg_pool::Pool;
-use hg_records::record::records_fit;
 use std::alloc::Global;
 use std::marker::Model;
 use std::snapshot::Snapshot;
@@ -76,41 +74,6 @@ impl<D: Disk> Model for Store<D> {
 }
 
 impl<D: Disk> Store<D> {
-    /// Offers an event. It is accepted, or it was sent before, or it is refused. The answer is the first refusal that
-    /// applies: `Broken`; a refusal of the trace rules; `FullPending` if 1,024 events wait for a commit; and then a lack of
-    /// room: for the pages of the event's words, for its sets, or of memory. A refusal leaves the content and the pending
-    /// events as they were.
-    pub fn offer(&mut self, named: &Named) -> Result<Answer, Refusal>
-        ensures done { OfferDone ⟦<D as Disk>⟧ self.old self.new named.now result }
-        ensures content { IsTrue D.is_honest → ContentOffered ⟦<D as Disk>⟧ self.old self.new named.now result }
-        ensures device { FailuresBecome ⟦<D as Disk>⟧ self.old.devices self.new.devices (failed_after result) }
-        ensures images { IsTrue D.is_honest → StandMeanwhile ⟦<D as Disk>⟧ self.old self.new self.old.in_doubt }
-        ensures limits { KeepsLimits self.old self.new }
-    {
-        if self.is_broken {
-            return Err(Refusal::Broken);
-        }
-        match self.detector.verdict(named) {
-            Verdict::Duplicate(last) => return Ok(Answer::Duplicate(last)),
-            Verdict::Refuse(refusal) => return Err(refusal),
-            Verdict::Accept => {}
-        }
-        if self.pending.len() >= MOST_PENDING {
-            return Err(Refusal::FullPending);
-        }
-        records_fit(named);
-        match self.detector.accept(named) {
-            Ok(()) => {
-                self.pending.push_reserved(*named);
-                Ok(Answer::Accepted)
-            }
-            Err(refusal) => {
-                self.is_broken = self.detector.words().is_broken();
-                Err(refusal)
-            }
-        }
-    }
-
     /// Makes all accepted events durable, and answers their count. It makes at most four calls of the journal, and calls no
     /// device if no event is pending. It takes no memory. A crash during it leaves the events of the last commit, or all
     /// accepted ones.
