@@ -1,5 +1,5 @@
 -- What the rules accept, and how it is answered.
-use Rattle.std.proofs.Common.{◌≡◌, ℕ, true, Result, Ok, Err, sym, ap, ◌∙◌, subst}
+use Rattle.std.proofs.Common.{◌≡◌, ℕ, true, Result, Ok, Err, sym, ◌∙◌, subst}
 use Rattle.std.specs.Prelude.{IsErrAnd}
 use Rattle.hg_model.specs.declared.event.Named.{Named}
 use Rattle.hg_model.specs.declared.verdict.Refusal.{Refusal}
@@ -14,13 +14,17 @@ use Rattle.hg_detect.specs.declared.detector.Answer.TheVariants.{Accepted}
 use Rattle.hg_detect.specs.declared.engine.Engine.{Engine}
 use Rattle.hg_detect.specs.Answering.{Applies, IsAnswered}
 use Rattle.hg_detect.specs.Engine.{IsSound, LacksRoom, shown_of}
-use Rattle.hg_detect.specs.Shown.{Accepts, ShownDetector}
+use Rattle.hg_detect.specs.Shown.{Accepts, ShownDetector, verdict_on}
+
+-- the verdict by the parts is that by what the detector shows
+pub verdict_is : {W : Type 0} (cell_of : W → ℕ → Cell) (e : Engine W) (d : ShownDetector W) (n : Named) → IsSound e → shown_of e ≡ d → verdict (standing e.state) n ≡ verdict_on cell_of d n
+verdict_is {W} cell_of e d n sound shows =
+    subst (λ (x : ShownDetector W). verdict (standing e.state) n ≡ verdict_on cell_of x n) shows
+    (λ i. verdict (record (standing e.state) { segments = sound.segments i; sent = λ k. sound.messages.sent k i; received = λ k. sound.messages.received k i }) n)
 
 -- what the rules accept by the parts they accept by what the detector shows
 pub admitted : {W : Type 0} (cell_of : W → ℕ → Cell) (e : Engine W) (d : ShownDetector W) (n : Named) → IsSound e → shown_of e ≡ d → is_accept (verdict (standing e.state) n) ≡ true → Accepts cell_of d n
-admitted {W} cell_of e d n sound shows accepts =
-    subst (λ (x : ShownDetector W). Accepts cell_of x n) shows
-    ((λ i. verdict (record (standing e.state) { segments = sym sound.segments i; sent = λ k. sym (sound.messages.sent k) i; received = λ k. sym (sound.messages.received k) i }) n) ∙ accept_is (verdict (standing e.state) n) accepts)
+admitted cell_of e d n sound shows accepts = sym (verdict_is cell_of e d n sound shows) ∙ accept_is (verdict (standing e.state) n) accepts
 
 -- the answer where the event is accepted
 pub answered : {W : Type 0} (g : words.Ghosts W) (old new : ShownDetector W) (n : Named) → Accepts g.cell_of old n → IsAnswered g old n (Ok Accepted) new

@@ -6,7 +6,7 @@ ghost use Rattle.hg_graph.specs.Graph.{names};
 ghost use Rattle.hg_model.specs.Segments.{of_thread};
 ghost use Rattle.hg_model.specs.Messages.{Agrees};
 ghost use Rattle.hg_model.specs.Parts.{HasParts};
-ghost use Rattle.hg_model.specs.Accessing.{access_event};
+ghost use Rattle.hg_model.specs.Accessing.{MayAccess, access_event};
 ghost use Rattle.hg_model.specs.Holding.{hold_named};
 ghost use Rattle.hg_model.specs.Change.{empty_content};
 ghost use Rattle.hg_model.specs.Verdicts.{MayBeNext};
@@ -15,7 +15,7 @@ ghost use Rattle.hg_cells.specs.declared.cell.Cell.TheVariants.{New};
 ghost use Rattle.hg_cells.specs.Cells.{IsWithin};
 ghost use Rattle.hg_cells.specs.Words.{ForWords, KeepsLaw, failed_after};
 ghost use Rattle.hg_detect.specs.Shown.{HasRoom, IsReportAt, content, shown_with};
-ghost use Rattle.hg_detect.specs.Answering.{IsOnLock};
+ghost use Rattle.hg_detect.specs.Answering.{IsOnLock, after_passing};
 ghost use Rattle.hg_detect.specs.Engine.{Answers, AsksForAccess, AsksForCell, AtPresent, HasPlan, IsPlannedBy, IsSound, KeepsCells, LacksForCell, LacksRoom, ReadsTrue, WantsToGrow, shown_of};
 
 use crate::access::NamedAccess;
@@ -311,6 +311,18 @@ impl<W: Words> Engine<W> {
         ensures failures { W.failures self.new.words ≡ W.failures self.old.words }
     {
         self.state.follow_hold(source, number, hold);
+    }
+
+    /// Counts an accepted access, and does nothing else of it.
+    #[inline(always)]
+    pub(crate) fn pass(&mut self, source: u16, number: u64)
+        requires sound { IsSound self.old }
+        requires accepted { MayAccess self.old.state source number }
+        ensures sound { IsSound self.new }
+        ensures rest { self.new ≡ record self.old { state = self.new.state } }
+        ensures content { content W.cell_of (shown_of self.new) ≡ after_passing (content W.cell_of (shown_of self.old)) source }
+    {
+        self.state.follow_access(source, number);
     }
 
     /// Accepts an alloc or a free of a block: its words become new.
