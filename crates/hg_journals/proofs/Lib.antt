@@ -1,3 +1,4 @@
+pub mod Collecting
 pub mod Finding
 pub mod Keeping
 pub mod Imaging

@@ -37,11 +37,11 @@ not_broken e (inl is) told = absurd cc
 not_broken e (inr (inl is)) told = absurd cc
 not_broken e (inr (inr is)) told = absurd cc
 
-never_broken : {T : Type 0} (P : Type 0) (result : Result T Refusal) → IfErr result IsOfReading → IfErr result (λ e. e ≡ Broken → P)
+pub never_broken : {T : Type 0} (P : Type 0) (result : Result T Refusal) → IfErr result IsOfReading → IfErr result (λ e. e ≡ Broken → P)
 never_broken P (Ok value) is = tt
 never_broken P (Err e) is = λ told. absurd (not_broken e is told)
 
-or_broken : {T : Type 0} (result : Result T Refusal) → IfErr result IsOfReading → IfErr result (λ e. IsOfReading e ⊎ (e ≡ Broken))
+pub or_broken : {T : Type 0} (result : Result T Refusal) → IfErr result IsOfReading → IfErr result (λ e. IsOfReading e ⊎ (e ≡ Broken))
 or_broken (Ok value) is = tt
 or_broken (Err e) is = inl is
 
@@ -102,7 +102,7 @@ module _ {D : Type 0} (g : disk.Ghosts D) where
 
   -- What a call that reads promises, of what it did to the two files.
   pub reads_by : {T : Type 0} (p q : JournalPair D g) (result : Result T Refusal) → IsSameButFiles p q → WasRead g 1 (older p) (older q) → WasRead g 1 (newer p) (newer q) → IfErr result IsOfReading
-      → g.failures (older q) + g.failures (newer q) ≡ failed_after result (g.failures (older p) + g.failures (newer p)) → p.is_broken ≡ false → Reads p q result
+      → g.failures (older q) + g.failures (newer q) ≡ failed_after result (g.failures (older p) + g.failures (newer p)) → p.is_broken ≡ false → Reads 1 p q result
   reads_by p q result same one other fault device works = record {
     same = same;
     first = subst (λ (t : Bool). WasRead g 1 (first_of p) (if t then newer q else older q)) (sym same.turn) (first_read p.is_turned (older p) (older q) (newer p) (newer q) one other);
@@ -114,26 +114,30 @@ module _ {D : Type 0} (g : disk.Ghosts D) where
   }
 
   -- the current file alone was read
-  pub reads_newer : {T : Type 0} (p q : JournalPair D g) (result : Result T Refusal) → ReadsNewer p q result → p.is_broken ≡ false → Reads p q result
+  pub reads_newer : {T : Type 0} (p q : JournalPair D g) (result : Result T Refusal) → ReadsNewer p q result → p.is_broken ≡ false → Reads 1 p q result
   reads_newer p q result h works =
       reads_by p q result h.same (subst (λ (j : Journal D g). WasRead g 1 (older p) (disk_of j)) (sym h.other) (unread 1 (older p))) h.read h.fault
       (ap (λ (n : ℕ). g.failures (older q) + n) h.device ∙ ap (λ (j : Journal D g). g.failures (disk_of j) + failed_after result (g.failures (newer p))) h.other
       ∙ failed_more result (g.failures (older p)) (g.failures (newer p)) h.fault)
       works
 
+  -- as it was, and then as it was
+  pub still_same : (p q r : JournalPair D g) → IsSameButFiles p q → IsSameButFiles q r → IsSameButFiles p r
+  still_same p q r one two = record {
+    base = two.base ∙ one.base;
+    newer_base = two.newer_base ∙ one.newer_base;
+    last = two.last ∙ one.last;
+    spare = two.spare ∙ one.spare;
+    turn = two.turn ∙ one.turn;
+    broken = two.broken ∙ one.broken;
+  }
+
   -- the file that is not the current one was read to its end, and then the current one
   pub reads_both : {T : Type 0} (p q r : JournalPair D g) (result : Result T Refusal) → IsSameButFiles p q → q.newer ≡ p.newer → WasRead g 1 (older p) (older q) → g.failures (older q) ≡ g.failures (older p) → ReadsNewer q r result → p.is_broken ≡ false
-      → Reads p r result
+      → Reads 1 p r result
   reads_both p q r result before same_newer one unfailed h works =
       reads_by p r result
-      (record {
-        base = h.same.base ∙ before.base;
-        newer_base = h.same.newer_base ∙ before.newer_base;
-        last = h.same.last ∙ before.last;
-        spare = h.same.spare ∙ before.spare;
-        turn = h.same.turn ∙ before.turn;
-        broken = h.same.broken ∙ before.broken;
-      })
+      (still_same p q r before h.same)
       (subst (λ (j : Journal D g). WasRead g 1 (older p) (disk_of j)) (sym h.other) one)
       (subst (λ (j : Journal D g). WasRead g 1 (disk_of j) (newer r)) same_newer h.read)
       h.fault

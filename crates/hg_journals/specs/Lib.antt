@@ -1,4 +1,5 @@
 pub mod Attaching
+pub mod Collecting
 pub mod Journals
 pub mod Making
 pub mod Pairs

@@ -80,11 +80,11 @@ module _ {D : Type 0} {g : disk.Ghosts D} where
     pub turn : new.is_turned ≡ old.is_turned
     pub broken : new.is_broken ≡ old.is_broken
 
-  -- What a call that reads promises beside: neither file is changed, and each is called once at most.
-  pub record Reads {T : Type 0} (old new : JournalPair D g) (result : Result T Refusal) : Type 0 where
+  -- What a call that reads promises beside: neither file is changed, and each is called so often at most.
+  pub record Reads {T : Type 0} (most : ℕ) (old new : JournalPair D g) (result : Result T Refusal) : Type 0 where
     pub same : IsSameButFiles old new
-    pub first : WasRead g 1 (first_of old) (first_of new)
-    pub second : WasRead g 1 (second_of old) (second_of new)
+    pub first : WasRead g most (first_of old) (first_of new)
+    pub second : WasRead g most (second_of old) (second_of new)
     pub fault : IfErr result (λ e. IsOfReading e ⊎ (e ≡ Broken))
     pub device : failures new ≡ failed_after result (failures old)
     pub refuses : IsTrue (is_broken old) → (result ≡ Err Broken) × (new ≡ old)

@@ -2,6 +2,7 @@
 #![tactic(auto)]
 
 mod attach;
+mod collect;
 mod count;
 mod file;
 pub mod laws;

@@ -75,7 +75,7 @@ impl<D: Disk> JournalPair<D> {
         ensures next { ReadsNext self.old reader.old self.new reader.new result }
         ensures stays { StaysOnErr self.old reader.old self.new reader.new result }
         ensures keeps { StaysKept self.old self.new }
-        ensures reads { Reads self.old self.new result }
+        ensures reads { Reads 1 self.old self.new result }
     {
         if self.is_broken {
             return Err(Refusal::Broken);
@@ -130,7 +130,7 @@ impl<D: Disk> JournalPair<D> {
         ensures passed { ReadsMore self.old reader.old self.new reader.new result }
         ensures stays { StaysOnErr self.old reader.old self.new reader.new result }
         ensures keeps { KeepsWhereRead self.old reader.old self.new }
-        ensures reads { Reads self.old self.new result }
+        ensures reads { Reads 1 self.old self.new result }
     {
         if self.is_broken {
             return Err(Refusal::Broken);

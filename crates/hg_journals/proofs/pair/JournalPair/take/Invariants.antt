@@ -1,0 +1,17 @@
+use Rattle.std.proofs.Common.{◌≡◌, ◌+◌, ◌++◌, ℕ, IsTrue, List, length, false, Ok}
+use Rattle.hg_model.specs.declared.event.Named.{Named}
+use Rattle.hg_journals.specs.Pairs.{Keeps, StaysKept, is_broken}
+use Rattle.hg_journals.specs.Reading.{IsAt, Reads}
+use Rattle.hg_journals.proofs.pair.JournalPair.take.Given as goal
+
+abbrev pub invariant-loop-left : goal.invariant-loop-left
+invariant-loop-left g l = record {
+  works : is_broken l.self ≡ false;
+  size : length l.found.items + l.left ≡ l.fn.count;
+  reads : Reads (length l.found.items) l.fn.self l.self (Ok l.left);
+  keeps : StaysKept l.fn.self l.self;
+  read : (base : ℕ) (events seen : List Named) → IsTrue g.D.Disk.is_honest → Keeps l.fn.self base events → IsAt l.fn.self l.fn.reader seen → IsAt l.self l.reader (seen ++ l.found.items);
+}
+
+abbrev pub decreases-loop-left : goal.decreases-loop-left
+decreases-loop-left g l = l.left
