@@ -7,7 +7,7 @@ use Rattle.hg_checkpoint.specs.Told.{refusal_of}
 use Rattle.hg_checkpoint.specs.declared.cause.Cause.TheVariants as cause
 use Rattle.hg_checkpoint.specs.declared.phase.Phase.{Phase}
 use Rattle.hg_store.specs.declared.devices.Devices.{Devices}
-use Rattle.hg_store.specs.Images.{failures_of, KeepsFiles}
+use Rattle.hg_store.specs.Images.{failures_of}
 use Rattle.hg_store.specs.declared.steps.StepFault.{StepFault}
 use Rattle.hg_store.specs.declared.steps.StepFault.TheVariants as step
 use Rattle.hg_store.specs.declared.steps.StorePhase.TheVariants as store

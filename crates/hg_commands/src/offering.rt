@@ -1,7 +1,7 @@
 //! Offering the event of a line to a store, in the parts that the line was read in.
 
 ghost use Rattle.std.specs.Prelude.{◌≡◌, IsTrue};
-ghost use Rattle.hg_journal.specs.Journal.{failed_after};
+ghost use Rattle.hg_store.specs.Journal.{failed_after};
 ghost use Rattle.hg_store.specs.Images.{FailuresBecome};
 ghost use Rattle.hg_store.specs.Shown.{KeepsLimits};
 ghost use Rattle.hg_store.specs.Steps.{ContentOffered, OfferDone};
