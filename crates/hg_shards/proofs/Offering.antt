@@ -251,14 +251,13 @@ shard_answers old d n answer part whole offers =
       ready = record { part = part; whole = whole };
       after_any = λ trace k.
           let o = offers trace k in
-          let limit = old.detector.sets.limit in
           record {
             answered = o.answered;
             follows = o.knows;
-            sets = λ has was. let now = o.sets limit has was in subst (λ (l : ℕ). HasSets l (asked (own_words old) (events_of (n ∷ trace))) d.sets) (sym now.limit_is) now;
+            sets = o.sets;
             same = λ other. ap (λ (x : Detector PagedWords). record old { detector = x }) (o.same other);
             held = o.held;
-            full = o.full limit;
+            full = o.full;
           };
     }
 
@@ -277,10 +276,9 @@ shard_begins count part limit d lt whole some empty sets =
     record {
       count_is = refl;
       part_is = refl;
-      limit_is = ap (λ (t : Table). t.limit) sets;
       ready = record { part = lt; whole = whole };
       follows = subst (λ (c : Content). Knows within [] c) (sym empty) nothing;
-      sets = subst (λ (t : Table). HasSets t.limit [] t) (sym sets) (first_has limit some);
+      sets = subst (λ (t : Table). HasSets limit [] t) (sym sets) (first_has limit some);
     }
 
 -- an accepted access that was passed over is accepted

@@ -79,18 +79,17 @@ pub record IsReady (s : Shard) : Type 0 where
 abbrev pub Follows : List Named → Shard → Type 0
 Follows trace s = Knows (own_words s) trace (content_of s.detector)
 
--- Its table has the sets that the trace asks for, for its words.
-abbrev pub HasOwnSets : List Named → Shard → Type 0
-HasOwnSets trace s = HasSets s.detector.sets.limit (asked (own_words s) (events_of trace)) s.detector.sets
+-- Its table has room for `limit` sets, and has those that the trace asks for, for its words.
+abbrev pub HasOwnSets : ℕ → List Named → Shard → Type 0
+HasOwnSets limit trace s = HasSets limit (asked (own_words s) (events_of trace)) s.detector.sets
 
 -- The shard of this part follows the empty trace, and its table has room for `limit` sets.
 pub record BeginsFor (count part limit : ℕ) (s : Shard) : Type 0 where
   pub count_is : s.count ≡ count
   pub part_is : s.part ≡ part
-  pub limit_is : s.detector.sets.limit ≡ limit
   pub ready : IsReady s
   pub follows : Follows [] s
-  pub sets : HasOwnSets [] s
+  pub sets : HasOwnSets limit [] s
 
 -- the shard has seen one event more where it was accepted
 abbrev pub with_accepted : Result Answer Refusal → Named → List Named → List Named
@@ -107,11 +106,10 @@ verdict_after trace n = verdict (standing_of (summary trace)) n
 pub record AnswersAfter (trace : List Named) (old : Shard) (n : Named) (answer : Result Answer Refusal) (new : Shard) : Type 0 where
   pub answered : Applies (verdict_after trace n) (λ r. r ≡ OutOfMemory) answer
   pub follows : Follows (with_accepted answer n trace) new
-  pub sets : HasOwnSets trace old → answer ≡ Ok Accepted → HasOwnSets (n ∷ trace) new
+  pub sets : (limit : ℕ) → HasOwnSets limit trace old → answer ≡ Ok Accepted → HasOwnSets limit (n ∷ trace) new
   pub same : (verdict_after trace n ≡ Accept → ⊥) → new ≡ old
   pub held : IsOnLock n.event → verdict_after trace n ≡ Accept → answer ≡ Ok Accepted
-  pub full : HasOwnSets trace old → verdict_after trace n ≡ Accept → answer ≡ Err FullSets
-      → old.detector.sets.limit < size_with (asked (own_words old) (events_of (n ∷ trace)))
+  pub full : (limit : ℕ) → HasOwnSets limit trace old → verdict_after trace n ≡ Accept → answer ≡ Err FullSets → limit < size_with (asked (own_words old) (events_of (n ∷ trace)))
 
 -- The same after any trace that the shard followed. Its part stays, and it may be offered the next event.
 pub record AnswersShard (old : Shard) (n : Named) (answer : Result Answer Refusal) (new : Shard) : Type 0 where
