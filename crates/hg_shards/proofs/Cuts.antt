@@ -75,3 +75,12 @@ cut_events_lem s m n h accepted =
     (λ (same : m.event ≡ n.event) (k : first_cause (causes s m) ≡ Accept). sym (λ i. first_cause (causes s (record { source = h.source i; number = h.number i; event = same i }))) ∙ k)
     (λ (cut : IsLawfulCut m.event n.event). cut_passes s m n h.source cut)
     h.event)
+
+-- Where an event of memory has a lawful length and end, its verdict is that on each lawful cut of it.
+pub same_verdict_cut : (s : Standing) (m n : Named) → m.source ≡ n.source → m.number ≡ n.number → IsLawfulCut m.event n.event → bad_length m.event ≡ false → past_address_end m.event ≡ false
+    → verdict s m ≡ verdict s n
+same_verdict_cut s m n source number cut len end =
+    let causes_are : first_cause (causes s m) ≡ first_cause (causes s n) =
+    by_tests s m cut.first ∙ (λ i. tested s (source i) (cut.thread i) ((len ∙ sym cut.len) i) ((end ∙ sym cut.end) i)) ∙ sym (by_tests s n cut.second)
+    in
+    λ i. by_number (s.last (source i)) (number i) (causes_are i)

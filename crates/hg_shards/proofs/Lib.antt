@@ -15,4 +15,7 @@ pub mod Asking
 pub mod Agreement
 pub mod Cuts
 pub mod Leaving
+pub mod Sharding
+mod Offering
+mod Summaries
 mod Rows

@@ -3,3 +3,4 @@ pub mod Merging
 pub mod Parts
 pub mod Asking
 pub mod Laws
+pub mod Sharding

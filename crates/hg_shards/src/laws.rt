@@ -1,6 +1,7 @@
 //! Laws of a trace and its parts, each the promise of a function without a body.
 
 ghost use Rattle.hg_shards.specs.Laws.{AgreementIsLawful, OtherWordsDoNotMatter, VerdictsNeedNoAccess, CutEventsAreAccepted, SummariesAgree, StepsAgree, PassingChangesNothing, ReportsRise, PartsMakeTheWhole, SharesMakeTheWhole, OtherWordsAskForOtherSets, PartsAskForTheSets, FullByTheSets, SetsAreOfTheWords, TablesAnswerBySets, OwnEventsStayWithin};
+ghost use Rattle.hg_shards.specs.Sharding.{ShardsMakeTheWhole};
 
 /// Each trace agrees with itself within any group of words. Agreement goes both ways, from trace to trace, and down to
 /// smaller groups.
@@ -88,4 +89,10 @@ pub fn tables_answer_by_sets()
 /// An event that touches no word outside a group has reports of words of the group alone, and asks for their sets alone.
 pub fn own_events_stay_within()
     ensures { OwnEventsStayWithin }
+{}
+
+/// The reports of the shards of all parts, merged by event and then by word, begin with those that are kept of the whole trace, and
+/// their totals add up to its total.
+pub fn shards_make_the_whole()
+    ensures { ShardsMakeTheWhole }
 {}

@@ -1,0 +1,142 @@
+-- What a shard knows of a trace: all that concerns the words of one part, and no other words.
+use Rattle.std.specs.Prelude.{◌≡◌, ◌⊎◌, ℕ, ◌*◌, ◌/◌, ◌%◌, ◌^◌, ◌<◌, Bool, false, List, [], ◌∷◌, length, map, sum, take, Option, Some, None, Result, Ok, Err, if◌then◌else◌}
+use Rattle.std.specs.List.{range_with_len}
+use Rattle.hg_model.specs.declared.limits.TheConstants.{MOST_REPORTS}
+use Rattle.hg_model.specs.declared.event.Access.{Access}
+use Rattle.hg_model.specs.declared.event.Event.{Event}
+use Rattle.hg_model.specs.declared.event.Named.{Named}
+use Rattle.hg_model.specs.declared.report.Report.{Report}
+use Rattle.hg_model.specs.declared.verdict.Refusal.{Refusal}
+use Rattle.hg_model.specs.declared.verdict.Refusal.TheVariants.{FullSets, OutOfMemory}
+use Rattle.hg_model.specs.declared.verdict.Verdict.{Verdict}
+use Rattle.hg_model.specs.declared.verdict.Verdict.TheVariants.{Accept}
+use Rattle.hg_model.specs.Accessing.{access_event}
+use Rattle.hg_model.specs.Contents.{Content, events_of, summary}
+use Rattle.hg_model.specs.Reporting.{all_reports}
+use Rattle.hg_model.specs.Verdicts.{IsAccepted, bad_length, past_address_end, standing_of, verdict}
+use Rattle.hg_cells.specs.declared.paged.PagedWords.{PagedWords}
+use Rattle.hg_cells.specs.declared.words.Words as words
+use Rattle.hg_detect.specs.declared.detector.Answer.{Answer}
+use Rattle.hg_detect.specs.declared.detector.Answer.TheVariants.{Accepted}
+use Rattle.hg_detect.specs.Answering.{Applies, IsOnLock, is_accepted}
+use Rattle.hg_detect.specs.Growing.{MayGrow}
+use Rattle.hg_detect.specs.Memory.{IsWhole, content_of}
+use Rattle.hg_shards.specs.declared.shard.Shard.{Shard}
+use Rattle.hg_shards.specs.Alike.{AreAlike, ContentsAgree, IsLawfulCut, PassesBy, StaysWithin, reports_within}
+use Rattle.hg_shards.specs.Asking.{HasSets, accessed, asked, size_with}
+use Rattle.hg_shards.specs.Merging.{merged}
+use Rattle.hg_shards.specs.Parts.{by_page, words_of_part}
+
+-- The part of a page, of `count` parts. The multiples of the golden section are spread evenly, so pages at any regular stride are
+-- spread over all parts.
+abbrev pub page_part : ℕ → ℕ → ℕ
+page_part count page = page % 2 ^ 32 * 2654435769 / 2 ^ 32 % count
+
+-- the words of a part, of `count` parts
+abbrev pub words_of : ℕ → ℕ → ℕ → Bool
+words_of count part = words_of_part (by_page (page_part count)) part
+
+-- the reports of a trace that are of words of the group
+abbrev pub reports_of_group : (ℕ → Bool) → List Named → List Report
+reports_of_group within trace = reports_within within (all_reports (events_of trace))
+
+-- After an accepted trace, the newest event first, the content is the trace's summary as far as a group of words goes: its counts,
+-- segments and threads are those of the summary, and so are these words and their reports. It has no other reports.
+pub record Knows (within : ℕ → Bool) (trace : List Named) (c : Content) : Type 0 where
+  pub accepted : IsAccepted trace
+  pub content : ContentsAgree within (summary trace) c
+  pub last : c.last ≡ (summary trace).last
+  pub reports : c.reports ≡ take MOST_REPORTS (reports_of_group within trace)
+  pub total : c.total ≡ length (reports_of_group within trace)
+
+-- The event of an access is of a lawful form: its length and its end are.
+pub record HasForm (write : Bool) (a : Access) : Type 0 where
+  pub len : bad_length (access_event write a) ≡ false
+  pub end : past_address_end (access_event write a) ≡ false
+
+-- What is judged of an access where a group of words is judged: it does to them what the access does, and nothing to others.
+pub record IsOwnPart (within : ℕ → Bool) (a own : Access) (write : Bool) : Type 0 where
+  pub form : HasForm write a
+  pub cut : IsLawfulCut (access_event write a) (access_event write own)
+  pub alike : AreAlike within (access_event write a) (access_event write own)
+  pub stays : StaysWithin within (access_event write own)
+
+-- The own part of an access, or none where it touches no word of the group, or is of no lawful form.
+abbrev pub IsCutTo : (ℕ → Bool) → Access → Option Access → Type 0
+IsCutTo within a (Some own) = (write : Bool) → IsOwnPart within a own write
+IsCutTo within a None = (write : Bool) → HasForm write a → PassesBy within (access_event write a)
+
+-- the words that the shard judges
+abbrev pub own_words : Shard → ℕ → Bool
+own_words s = words_of s.count s.part
+
+-- The part is one of so many, and the detector's cells name only segments and sets that exist: the shard may be offered an event.
+pub record IsReady (s : Shard) : Type 0 where
+  pub part : s.part < s.count
+  pub whole : IsWhole s.detector
+
+-- The shard was offered the accepted events of a trace, the newest first, and knows of its words what is to be known of them.
+abbrev pub Follows : List Named → Shard → Type 0
+Follows trace s = Knows (own_words s) trace (content_of s.detector)
+
+-- Its table has room for `limit` sets, and has those that the trace asks for, for its words.
+abbrev pub HasOwnSets : ℕ → List Named → Shard → Type 0
+HasOwnSets limit trace s = HasSets limit (asked (own_words s) (events_of trace)) s.detector.sets
+
+-- The shard of this part follows the empty trace, and its table has room for `limit` sets.
+pub record BeginsFor (count part limit : ℕ) (s : Shard) : Type 0 where
+  pub count_is : s.count ≡ count
+  pub part_is : s.part ≡ part
+  pub ready : IsReady s
+  pub follows : Follows [] s
+  pub sets : HasOwnSets limit [] s
+
+-- the shard has seen one event more where it was accepted
+abbrev pub with_accepted : Result Answer Refusal → Named → List Named → List Named
+with_accepted answer n trace = if is_accepted answer then n ∷ trace else trace
+
+-- the verdict of the rules on an event after the whole trace
+abbrev pub verdict_after : List Named → Named → Verdict
+verdict_after trace n = verdict (standing_of (summary trace)) n
+
+-- What the offer of an event gives a shard that followed a trace. The rules answer as they do after the whole trace, and what they
+-- accept is refused for want of sets or of memory alone. The shard follows the trace with the event where it was accepted, and the
+-- trace as it was where it was not; what the rules do not accept changes nothing. An event on a lock needs no room. Its table has the
+-- sets that its words ask for, and is full only where these are more than it has room for.
+pub record AnswersAfter (trace : List Named) (old : Shard) (n : Named) (answer : Result Answer Refusal) (new : Shard) : Type 0 where
+  pub answered : Applies (verdict_after trace n) (λ r. r ≡ OutOfMemory) answer
+  pub follows : Follows (with_accepted answer n trace) new
+  pub sets : (limit : ℕ) → HasOwnSets limit trace old → answer ≡ Ok Accepted → HasOwnSets limit (n ∷ trace) new
+  pub same : (verdict_after trace n ≡ Accept → ⊥) → new ≡ old
+  pub held : IsOnLock n.event → verdict_after trace n ≡ Accept → answer ≡ Ok Accepted
+  pub full : (limit : ℕ) → HasOwnSets limit trace old → verdict_after trace n ≡ Accept → answer ≡ Err FullSets → limit < size_with (asked (own_words old) (events_of (n ∷ trace)))
+
+-- The same after any trace that the shard followed. Its part stays, and it may be offered the next event.
+pub record AnswersShard (old : Shard) (n : Named) (answer : Result Answer Refusal) (new : Shard) : Type 0 where
+  pub rest : new ≡ record old { detector = new.detector }
+  pub ready : IsReady new
+  pub after_any : (trace : List Named) → Follows trace old → AnswersAfter trace old n answer new
+
+-- An accepted access that touches no word of the shard is never refused, and needs no room.
+abbrev pub PassesOthers : Shard → Named → Result Answer Refusal → Type 0
+PassesOthers old n answer =
+    (trace : List Named) → Follows trace old → (accessed n.event ≡ [] → ⊥) → PassesBy (own_words old) n.event → verdict_after trace n ≡ Accept → answer ≡ Ok Accepted
+
+-- The event does to the group what the other one does. If it is an access, it touches no other words.
+pub record IsOwnEvent (within : ℕ → Bool) (e own : Event) : Type 0 where
+  pub alike : AreAlike within e own
+  pub stays : (accessed own ≡ []) ⊎ StaysWithin within own
+
+-- Memory runs out only at an accepted event where what it does to the shard's own words may make something grow.
+abbrev pub WantsOwnRoom : words.Ghosts PagedWords → Shard → Named → Result Answer Refusal → Type 0
+WantsOwnRoom g old n answer =
+    (trace : List Named) → Follows trace old → verdict_after trace n ≡ Accept → answer ≡ Err OutOfMemory
+    → (own : Event) × IsOwnEvent (own_words old) n.event own × MayGrow g old.detector own
+
+-- What the shards of all parts know of a trace makes its summary: what is merged of their reports begins with the summary's, and
+-- their totals add up to its total.
+abbrev pub ShardsMakeTheWhole : Type 0
+ShardsMakeTheWhole = (count : ℕ) (trace : List Named) (content_at : ℕ → Content) → 0 < count →
+    ((k : ℕ) → k < count → Knows (words_of count k) trace (content_at k)) →
+    (take MOST_REPORTS (merged (map (λ k. (content_at k).reports) (range_with_len 0 count))) ≡ (summary trace).reports)
+    × (sum (map (λ k. (content_at k).total) (range_with_len 0 count)) ≡ (summary trace).total)
