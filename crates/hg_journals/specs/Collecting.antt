@@ -44,6 +44,12 @@ module _ {D : Type 0} {g : disk.Ghosts D} where
 
   -- ---- within the calls
 
+  -- The reader has read some events, and so many more come up to this number.
+  abbrev pub BeginsBefore : {E : Type 0} → (count : ℕ) → JournalPair D g → Result (PairReader × ℕ) E → Type 0
+  BeginsBefore count p result =
+      (base : ℕ) (events : List Named) → Keeps p base events
+      → IfOk result (λ begun. (seen : List Named) × (base + (length seen + begun.1) ≡ count) × IsAt p begun.0 seen)
+
   -- The events behind those that were read are found, at most so many,
   abbrev pub TakesNext : {E : Type 0} → (count : ℕ) → JournalPair D g → PairReader → Result (Vec Named) E → Type 0
   TakesNext count old before result =

@@ -71,6 +71,10 @@ module _ {D : Type 0} {g : disk.Ghosts D} where
   abbrev pub KeepsReaders : {T E : Type 0} → (old new : JournalPair D g) → Result T E → Type 0
   KeepsReaders old new result = (reader : PairReader) (seen : List Named) → IsAt old reader seen → OnOk result (IsAt new reader seen)
 
+  -- A reader that is in the current file stays in it, and leaves the other one as it was.
+  abbrev pub LeavesOlder : JournalPair D g → PairReader → JournalPair D g → PairReader → Type 0
+  LeavesOlder old before new after = IsTrue before.in_newer → (new.older ≡ old.older) × IsTrue after.in_newer
+
   -- The pair is as it was, but for its files.
   pub record IsSameButFiles (old new : JournalPair D g) : Type 0 where
     pub base : new.base ≡ old.base

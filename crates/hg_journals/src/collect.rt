@@ -1,8 +1,8 @@
 //! Reading the events of a pair from a number on.
-ghost use Rattle.std.specs.Prelude.{◌≡◌, ◌≢◌, ◌+◌, ◌-◌, ◌≤◌, length, IsOk, IfOk, IfErr, Err, false};
-ghost use Rattle.hg_journals.specs.Pairs.{StaysKept, base_of, is_broken};
-ghost use Rattle.hg_journals.specs.Collecting.{BeginsBehind, Collects, HasOutside, IfKeeps, KeepsIfHonest, TakesNext, TakesUndamaged, passed_to, wanted_from};
-ghost use Rattle.hg_journals.specs.Reading.{Reads};
+ghost use Rattle.std.specs.Prelude.{◌≡◌, ◌≢◌, ◌+◌, ◌-◌, ◌<◌, ◌≤◌, length, IsTrue, IsOk, IfOk, IfErr, Err, false};
+ghost use Rattle.hg_journals.specs.Pairs.{StaysKept, base_of, is_broken, newer_base_of};
+ghost use Rattle.hg_journals.specs.Collecting.{BeginsBefore, BeginsBehind, Collects, HasOutside, IfKeeps, KeepsIfHonest, TakesNext, TakesUndamaged, passed_to, wanted_from};
+ghost use Rattle.hg_journals.specs.Reading.{LeavesOlder, Reads};
 
 use crate::pair::JournalPair;
 use crate::reader::PairReader;
@@ -12,15 +12,40 @@ use hg_model::verdict::Refusal;
 use std::alloc::Global;
 
 impl<D: Disk> JournalPair<D> {
+    // A reader at the beginning of the file that has the place behind number `count`, and how many events are to be
+    // passed over from there.
+    fn begin_before(&self, count: u64) -> Result<(PairReader, u64), Refusal>
+        requires works { is_broken self.now ≡ false }
+        requires base { base_of self.now ≤ count }
+        ensures first { BeginsBefore count self.now result }
+        ensures few { IfOk result (λ begun. begun.1 ≤ count - base_of self.now) }
+        ensures newer { newer_base_of self.now ≤ count → IfOk result (λ begun. IsTrue begun.0.in_newer) }
+        ensures begins { IsOk result }
+    {
+        if count < self.newer_base {
+            let reader = self.events()?;
+            return Ok((reader, count - self.base));
+        }
+        let reader = self.newer.events()?;
+        let reader = PairReader {
+            reader,
+            in_newer: true,
+        };
+        Ok((reader, count - self.newer_base))
+    }
+
     /// The events behind number `count`, for `next`: those up to it are passed over, and not decoded. `Damaged` says
     /// that no kept event has a place there: `count` is less than the base, or greater than the last number. It makes
-    /// at most one device call of each file for each event that it passes over, and takes memory only with that.
+    /// at most one device call of each file for each event that it passes over, and takes memory only with that. Where
+    /// that place is in the current file, the other one is not called.
     pub fn events_behind(&mut self, count: u64) -> Result<PairReader, Refusal>
         ensures first { BeginsBehind count self.old self.new result }
         ensures damaged { IfKeeps self.old (λ base events. result ≡ Err Refusal.Damaged → HasOutside count self.old) }
         ensures outside { is_broken self.old ≡ false → HasOutside count self.old →
             (result ≡ Err Refusal.Damaged) × (self.new ≡ self.old) }
         ensures keeps { KeepsIfHonest self.old self.new }
+        ensures older { newer_base_of self.old ≤ count → IfOk result (λ reader. IsTrue reader.in_newer) ×
+            (self.new.older ≡ self.old.older) }
         ensures reads { Reads (count - base_of self.old) self.old self.new result }
     {
         if self.is_broken {
@@ -29,8 +54,7 @@ impl<D: Disk> JournalPair<D> {
         if count < self.base || self.last < count {
             return Err(Refusal::Damaged);
         }
-        let mut reader = self.events()?;
-        let mut left = count - self.base;
+        let (mut reader, mut left) = self.begin_before(count)?;
         while left > 0 {
             let passed = self.pass(&mut reader, left)?;
             if passed == 0 {
@@ -53,6 +77,7 @@ impl<D: Disk> JournalPair<D> {
         ensures whole { TakesUndamaged self.old reader.old result }
         ensures few { IfOk result (λ found. length found.items ≤ count) }
         ensures keeps { StaysKept self.old self.new }
+        ensures older { LeavesOlder self.old reader.old self.new reader.new }
         ensures reads { Reads count self.old self.new result }
     {
         let mut found = Vec::new(alloc);
@@ -69,7 +94,8 @@ impl<D: Disk> JournalPair<D> {
 
     /// The kept events from number `from` on, at most `max`. It begins with the first kept event if `from` is less,
     /// and finds none above the last number. It makes at most one device call of each file for each event up to the
-    /// last one that it finds, and none if it finds none. It takes memory for what it finds, and with a device call.
+    /// last one that it finds, none of the other file if they are all in the current one, and none if it finds none. It
+    /// takes memory for what it finds, and with a device call.
     pub fn collect(&mut self, alloc: Global, from: u64, max: usize) -> Result<Vec<Named>, Refusal>
         ensures found { Collects from max self.old result }
         ensures whole { IfKeeps self.old (λ base events. IfErr result (λ e. e ≢ Refusal.Damaged)) }
@@ -77,6 +103,7 @@ impl<D: Disk> JournalPair<D> {
         ensures none { is_broken self.old ≡ false → wanted_from from max self.old ≡ 0 →
             IsOk result × (self.new ≡ self.old) }
         ensures keeps { KeepsIfHonest self.old self.new }
+        ensures older { newer_base_of self.old < from → self.new.older ≡ self.old.older }
         ensures reads { Reads (passed_to from self.old + wanted_from from max self.old) self.old self.new result }
     {
         if self.is_broken {

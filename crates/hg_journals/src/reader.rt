@@ -1,7 +1,7 @@
 //! Reading the events of a pair, one after the other.
 ghost use Rattle.std.specs.Prelude.{◌≡◌, ◌<◌, ◌≤◌, IfOk, IfErr, IsTrue, Err, true, false};
 ghost use Rattle.hg_journals.specs.Pairs.{Keeps, StaysKept, is_broken};
-ghost use Rattle.hg_journals.specs.Reading.{Behind, BeginsAtFirst, KeepsWhereRead, MoreBehind, MoreInNewer, NextBehind, NextInNewer, Reads, ReadsMore, ReadsNewer, ReadsNext, StaysBehind, StaysInNewer, StaysOnErr, Where};
+ghost use Rattle.hg_journals.specs.Reading.{Behind, BeginsAtFirst, KeepsWhereRead, LeavesOlder, MoreBehind, MoreInNewer, NextBehind, NextInNewer, Reads, ReadsMore, ReadsNewer, ReadsNext, StaysBehind, StaysInNewer, StaysOnErr, Where};
 
 use crate::pair::JournalPair;
 use hg_disk::Disk;
@@ -75,6 +75,7 @@ impl<D: Disk> JournalPair<D> {
         ensures next { ReadsNext self.old reader.old self.new reader.new result }
         ensures stays { StaysOnErr self.old reader.old self.new reader.new result }
         ensures keeps { StaysKept self.old self.new }
+        ensures older { LeavesOlder self.old reader.old self.new reader.new }
         ensures reads { Reads 1 self.old self.new result }
     {
         if self.is_broken {
@@ -130,6 +131,7 @@ impl<D: Disk> JournalPair<D> {
         ensures passed { ReadsMore self.old reader.old self.new reader.new result }
         ensures stays { StaysOnErr self.old reader.old self.new reader.new result }
         ensures keeps { KeepsWhereRead self.old reader.old self.new }
+        ensures older { LeavesOlder self.old reader.old self.new reader.new }
         ensures reads { Reads 1 self.old self.new result }
     {
         if self.is_broken {

@@ -1,5 +1,5 @@
 -- A store whose detector was offered an event, by whichever of its calls.
-use Rattle.std.proofs.Common.{◌≡◌, ◌⊎◌, ◌∙◌, ◌+◌, ◌<◌, ◌≤◌, inl, inr, ℕ, List, [], ◌∷◌, ◌++◌, length, Bool, true, false, cond, Result, Ok, Err, Some, refl, sym, ap, subst, arith, if◌then◌else◌, ⊎_elim, le-leb}
+use Rattle.std.proofs.Common.{◌≡◌, ◌⊎◌, ◌∙◌, ◌+◌, ◌<◌, ◌≤◌, inl, inr, ℕ, List, [], ◌++◌, length, Bool, false, cond, Result, Ok, Err, Some, refl, sym, ap, subst, arith, if◌then◌else◌, ⊎_elim, le-leb}
 use Rattle.std.specs.Prelude.{◌≢◌, IfErr, OnOk}
 use Rattle.std.proofs.lemmas.Bool.{lt-leb}
 use Rattle.std.proofs.lemmas.List.{append-nil, length-append}
@@ -15,7 +15,7 @@ use Rattle.hg_model.specs.Verdicts.{standing_of, verdict}
 use Rattle.hg_records.specs.Records.{RecordFits}
 use Rattle.hg_cells.specs.Words as cells
 use Rattle.hg_detect.specs.Answering.{Applies, done, is_accepted}
-use Rattle.hg_detect.specs.Engine.{AtPresent, LacksRoom}
+use Rattle.hg_detect.specs.Engine.{LacksRoom}
 use Rattle.hg_detect.specs.Shown as detect
 use Rattle.hg_detect.specs.declared.detector.Answer.{Answer}
 use Rattle.hg_detect.specs.declared.detector.Answer.TheVariants.{Accepted, Duplicate}

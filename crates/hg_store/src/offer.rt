@@ -128,7 +128,7 @@ impl<D: Disk> Store<D> {
 
     /// Offers a read or a write under the number that its source gave it. It does what `offer` does with that event, but makes
     /// no event in memory before it is accepted.
-    #[inline]
+    #[inline(always)]
     pub fn touch(
         &mut self,
         source: u16,
@@ -158,7 +158,7 @@ impl<D: Disk> Store<D> {
 
     /// Offers an event on a lock under the number that its source gave it. It does what `offer` does with that event, but makes
     /// no event in memory before it is accepted.
-    #[inline]
+    #[inline(always)]
     pub fn hold(&mut self, source: u16, number: u64, hold: Hold) -> Result<Answer, Refusal>
         ensures done { OfferDone ⟦<D as Disk>⟧ self.old self.new (hold_named source number hold) result }
         ensures content { IsTrue D.is_honest → ContentOffered ⟦<D as Disk>⟧ self.old self.new (hold_named source number hold) result }

@@ -56,6 +56,26 @@ fn pass(
     Ok(())
 }
 
+/// The events from a number on, at most so many: how many, and each.
+fn collect(
+    pair: &mut JournalPair<TestDisk>,
+    alloc: Global,
+    rest: &str,
+    out: &mut Text,
+) -> Result<(), Halt> {
+    let mut tokens = Tokens::of(rest);
+    let from = tokens.number();
+    let max = tokens.short_number();
+    tokens.check()?;
+    let events = pair.collect(alloc, from, usize::from(max))?;
+    out.put_decimal(events.len() as u64);
+    for named in events.iter() {
+        out.put(b", ");
+        put_named(named, out);
+    }
+    Ok(())
+}
+
 /// The one number of a line.
 fn number_of(rest: &str) -> Result<u64, Halt> {
     let mut tokens = Tokens::of(rest);
@@ -193,7 +213,7 @@ impl PairBench {
     }
 
     /// Does what a line asks of the open pair.
-    fn work(&mut self, token: &str, rest: &str, out: &mut Text) -> Result<(), Halt> {
+    fn work(&mut self, alloc: Global, token: &str, rest: &str, out: &mut Text) -> Result<(), Halt> {
         let Some(pair) = &mut self.opened else {
             return Err(Halt::Closed);
         };
@@ -206,6 +226,8 @@ impl PairBench {
             "turn" => put_either(pair.turn()?, b"turned", b"no turn", out),
             "retire" => put_either(pair.retire(number_of(rest)?)?, b"retired", b"kept", out),
             "first" => self.reader = Some(pair.events()?),
+            "behind" => self.reader = Some(pair.events_behind(number_of(rest)?)?),
+            "collect" => return collect(pair, alloc, rest, out),
             "next" => return put_next(pair, &mut self.reader, out),
             "pass" => return pass(pair, &mut self.reader, rest, out),
             "kept" => put_kept(pair, out),
@@ -227,7 +249,7 @@ impl PairBench {
             "create" => self.open(alloc, shelf, true),
             "attach" => self.open(alloc, shelf, false),
             "event" => put_events(rest, &mut self.batch),
-            _ => self.work(token, rest, out),
+            _ => self.work(alloc, token, rest, out),
         }
     }
 }

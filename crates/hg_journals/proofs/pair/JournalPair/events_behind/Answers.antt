@@ -1,4 +1,4 @@
-use Rattle.std.proofs.Common.{rules, ◌≡◌, ◌+◌, ◌-◌, ◌++◌, false, [], List, length, inl, inr, Ok, Err, refl, ◌∙◌, ap, arith, length-append}
+use Rattle.std.proofs.Common.{rules, ◌≡◌, ◌+◌, ◌-◌, ◌++◌, false, List, length, inl, inr, Ok, Err, refl, ◌∙◌, ap, arith, length-append}
 use Rattle.hg_model.specs.declared.verdict.Refusal.TheVariants.{Damaged}
 use Rattle.hg_model.specs.declared.event.Named.{Named}
 use Rattle.hg_journals.specs.Reading.{IsAt}
@@ -6,14 +6,13 @@ use Rattle.hg_journals.proofs.Collecting.{no_more, reads_ok, reads_on, reads_ref
 use Rattle.hg_journals.proofs.pair.JournalPair.events_behind.Goals as goal
 
 pub loop-left-init : goal.loop-left-init
-loop-left-init g c =
-    let p = c.args.self.now in
-    record {
-      works = c.if-self.false;
-      few = omega arith;
-      reads = unread_pair g.D.Disk _ p (Ok _) tt refl c.if-self.false;
-      read = λ base events honest k. (k, [], omega (arith, k.begins, c.if-count-self.false), c.in_ok-reader.ensures.first base events k);
-    }
+loop-left-init g c = record {
+  works = c.if-self.false;
+  few = c.in_ok-reader.ensures.few;
+  reads = unread_pair g.D.Disk _ c.args.self.now (Ok c.in_ok-reader.left) tt refl c.if-self.false;
+  read = λ base events honest k. let begun = c.in_ok-reader.ensures.first base events k in (k, begun.0, begun.1, begun.2);
+  older = λ late. (refl, c.in_ok-reader.ensures.newer late);
+}
 
 pub returns-in_err-passed-clause-damaged : goal.returns-in_err-passed-clause-damaged
 returns-in_err-passed-clause-damaged g c base events honest k told =
@@ -62,6 +61,10 @@ loop-left-preserved g c =
           let read = l.invariant.read base events honest k in
           let more = some_more c.in_ok-passed.passed (read.1 ≡ events) (λ (more : List Named). IsAt c.pass.new.self c.pass.new.reader (read.1 ++ more)) c.if-passed-eq0.false (c.in_ok-passed.ensures.passed base events read.1 honest read.0 read.3) in
           (c.in_ok-passed.ensures.keeps base events read.1 honest read.0 read.3, read.1 ++ more.0, omega (arith, length-append read.1 more.0, read.2, more.1, c.in_ok-passed.ensures.few), more.2);
+      older = λ late.
+          let before = l.invariant.older late in
+          let after = c.in_ok-passed.ensures.older before.1 in
+          (after.0 ∙ before.0, after.1);
     }
 
 pub returns-clause-first : goal.returns-clause-first

@@ -74,6 +74,10 @@ loop-left-preserved g c =
           subst (λ (found : Option Named). HasNext c.next.new.reader.in_newer c.next.new.self c.next.new.reader.reader events (seen ++ l.found.items) found) c.in-Some.is
           (c.in_ok-named.ensures.next base events (seen ++ l.found.items) honest (l.invariant.keeps base events k) (l.invariant.read base events seen honest k h)) in
           subst (λ (xs : List Named). IsAt c.next.new.self c.next.new.reader xs) (one_more seen l.found.items c.push.new.self.items c.in-Some.named c.in_ok-push.ensures.items) more;
+      older = λ in_newer.
+          let before = l.invariant.older in_newer in
+          let after = c.in_ok-named.ensures.older before.1 in
+          (after.0 ∙ before.0, after.1);
     }
 
 pub returns-clause-found : goal.returns-clause-found

@@ -11,6 +11,7 @@ invariant-loop-left g l = record {
   reads : Reads (length l.found.items) l.fn.self l.self (Ok l.left);
   keeps : StaysKept l.fn.self l.self;
   read : (base : ℕ) (events seen : List Named) → IsTrue g.D.Disk.is_honest → Keeps l.fn.self base events → IsAt l.fn.self l.fn.reader seen → IsAt l.self l.reader (seen ++ l.found.items);
+  older : IsTrue l.fn.reader.in_newer → (l.self.older ≡ l.fn.self.older) × IsTrue l.reader.in_newer;
 }
 
 abbrev pub decreases-loop-left : goal.decreases-loop-left

@@ -1,6 +1,5 @@
 use Rattle.std.proofs.Common.{rules, ◌++◌, ap, subst, ◌∙◌}
 use Rattle.hg_model.specs.declared.event.Named.{Named}
-use Rattle.hg_model.specs.Accessing.{access_named}
 use Rattle.hg_model.specs.Holding.{hold_named}
 use Rattle.hg_records.specs.Records.{RecordFits}
 use Rattle.hg_pool.specs.Maps as pools

@@ -1,6 +1,4 @@
-use Rattle.std.proofs.Common.{rules, sym, ap, ◌∙◌}
-use Rattle.hg_model.specs.Accessing.{access_named}
-use Rattle.hg_model.specs.Holding.{hold_named}
+use Rattle.std.proofs.Common.{rules, ap, ◌∙◌}
 use Rattle.hg_pool.specs.Maps as pools
 use Rattle.hg_store.proofs.Backing.{parts_stand}
 use Rattle.hg_store.proofs.Offered.{full_calls_nothing, full_is_done, full_is_offered, images, is_done, is_offered, is_sound}
