@@ -7,8 +7,8 @@ use Rattle.hg_gate.proofs.Opening.{not_closed}
 use Rattle.hg_root.specs.Checkpoints.{Checkpoint, root_of}
 use Rattle.hg_root.specs.Newest.{IsNewest, IsRootFile}
 use Rattle.hg_root.specs.Parts.{Parts}
-use Rattle.hg_images.specs.Images.{Gives, HasContent, Image}
-use Rattle.hg_images.specs.Laws.{ClosedRootsAreAsBefore, ClosedRootsNeedAllEvents, HasClosedRoots, HasEventsAlone, HasNewest, Keeps}
+use Rattle.hg_images.specs.Images.{Gives, HasContent, HasJournals, HasNewest, Image}
+use Rattle.hg_images.specs.Laws.{ClosedRootsAreAsBefore, ClosedRootsNeedAllEvents, HasClosedRoots, HasEventsAlone}
 use Rattle.hg_images.proofs.Contents.{gives_over}
 
 -- a closed file has no root
@@ -27,7 +27,7 @@ none_open : (image : Image) (checkpoint : Option Checkpoint) → HasClosedRoots 
 none_open image checkpoint closed newest = no_checkpoint checkpoint (no_newest (root_of checkpoint) newest.former image.root0 image.root1 closed.0 closed.1 newest.newest)
 
 -- the journals alone give the content
-alone : (image : Image) (c : Content) (base : ℕ) (events : List Named) → HasClosedRoots image → Keeps base events image → HasContent image c → Gives None base events c
+alone : (image : Image) (c : Content) (base : ℕ) (events : List Named) → HasClosedRoots image → HasJournals base events image → HasContent image c → Gives None base events c
 alone image c base events closed keeps has =
     subst (λ (x : Option Checkpoint). Gives x base events c) (none_open image has.checkpoint closed has.stands) (gives_over image c base events has keeps)
 
@@ -47,7 +47,7 @@ as_before image c closed = (forth, back) where
   forth has =
       let gives = alone image c has.base has.events closed has.journals has in
       let first : has.base ≡ 0 = omega (arith, gives.reaches) in
-      let keeps : Keeps 0 has.events image = subst (λ (n : ℕ). Keeps n has.events image) first has.journals in
+      let keeps : HasJournals 0 has.events image = subst (λ (n : ℕ). HasJournals n has.events image) first has.journals in
       (has.events, keeps, (alone image c 0 has.events closed keeps has).leads)
 
   back : HasEventsAlone image c → HasContent image c

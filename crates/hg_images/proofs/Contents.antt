@@ -9,8 +9,8 @@ use Rattle.hg_root.specs.Checkpoints.{Checkpoint, root_of}
 use Rattle.hg_root.proofs.Choosing.{one_newest}
 use Rattle.hg_contents.specs.Images.{start_of}
 use Rattle.hg_contents.proofs.Contents.{one_start}
-use Rattle.hg_images.specs.Images.{Gives, HasContent, Image, count_of, with_journals}
-use Rattle.hg_images.specs.Laws.{BasesAboveTheRootHaveNoContent, ContentIsUnique, ContentsCountTheirEvents, GivingUpKeepsContent, HasNewest, HasShortRoots, Keeps, TurnsChangeNothing}
+use Rattle.hg_images.specs.Images.{Gives, HasContent, HasJournals, HasNewest, Image, count_of, with_journals}
+use Rattle.hg_images.specs.Laws.{BasesAboveTheRootHaveNoContent, ContentIsUnique, ContentsCountTheirEvents, GivingUpKeepsContent, HasShortRoots, TurnsChangeNothing}
 use Rattle.hg_images.proofs.Following.{counted}
 use Rattle.hg_images.proofs.GivingUp.{as_before, given_up}
 
@@ -18,7 +18,7 @@ some_is : (c d : Content) → Some c ≡ Some d → c ≡ d
 some_is c d is = cc
 
 -- what the journals keep, and the image's own checkpoint, give its content
-pub gives_over : (image : Image) (c : Content) (base : ℕ) (events : List Named) → (has : HasContent image c) → Keeps base events image → Gives has.checkpoint base events c
+pub gives_over : (image : Image) (c : Content) (base : ℕ) (events : List Named) → (has : HasContent image c) → HasJournals base events image → Gives has.checkpoint base events c
 gives_over image c base events has keeps =
     let same = once image.journal0 image.journal1 has.base base has.events events has.journals keeps in
     subst (λ (es : List Named). Gives has.checkpoint base es c) same.1 (subst (λ (n : ℕ). Gives has.checkpoint n has.events c) same.0 has.gives)
@@ -50,7 +50,7 @@ over : (image : Image) (c : Content) (one other : List ℕ) (base : ℕ) (events
     → HasContent (with_journals image one other) c
 over image c one other base events has keep gives = record { checkpoint = has.checkpoint; stands = has.stands; base = base; events = events; journals = keep; gives = gives }
 
-turned_to : (image : Image) (c : Content) (one other : List ℕ) (base : ℕ) (events : List Named) → Keeps base events image → HaveJournals base events one other → HasContent image c
+turned_to : (image : Image) (c : Content) (one other : List ℕ) (base : ℕ) (events : List Named) → HasJournals base events image → HaveJournals base events one other → HasContent image c
     → HasContent (with_journals image one other) c
 turned_to image c one other base events before after has = over image c one other base events has after (gives_over image c base events has before)
 

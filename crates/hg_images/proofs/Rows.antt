@@ -12,8 +12,7 @@ use Rattle.hg_journals.specs.Journals.{AreJournals, behind}
 use Rattle.hg_root.specs.Checkpoints.{Checkpoint}
 use Rattle.hg_contents.specs.Images.{start_of}
 use Rattle.hg_contents.proofs.Following.{followed_append, followed_events}
-use Rattle.hg_images.specs.Images.{HasContent, Image, LeadFrom}
-use Rattle.hg_images.specs.Laws.{HasNewest}
+use Rattle.hg_images.specs.Images.{HasContent, HasNewest, Image, LeadFrom}
 
 -- thread 0 takes lock 7 by each odd event, and lets it go by each even one
 abbrev event : ℕ → Named

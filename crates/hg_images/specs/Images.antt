@@ -30,14 +30,22 @@ Gives checkpoint base events c = LeadFrom (start_of checkpoint) base events c
 abbrev pub count_of : Option Checkpoint → ℕ
 count_of checkpoint = (start_of checkpoint).events
 
--- The image has this content: that of its checkpoint, or the empty one, and of the events behind it that both journals
--- keep, each accepted after those before it.
+-- This is the image's newest checkpoint, or it has none.
+abbrev pub HasNewest : Option Checkpoint → Image → Type 0
+HasNewest checkpoint image = HasCheckpoint checkpoint image.root0 image.root1 image.slots
+
+-- Its journals keep these events behind this base.
+abbrev pub HasJournals : (base : ℕ) → List Named → Image → Type 0
+HasJournals base events image = HaveJournals base events image.journal0 image.journal1
+
+-- The image has this content: that of its newest checkpoint, or the empty one, and of the events behind it that both
+-- journals keep, each accepted after those before it.
 pub record HasContent (image : Image) (c : Content) : Type 0 where
   pub checkpoint : Option Checkpoint
-  pub stands : HasCheckpoint checkpoint image.root0 image.root1 image.slots
+  pub stands : HasNewest checkpoint image
   pub base : ℕ
   pub events : List Named
-  pub journals : HaveJournals base events image.journal0 image.journal1
+  pub journals : HasJournals base events image
   pub gives : Gives checkpoint base events c
 
 -- It has no content.

@@ -5,21 +5,13 @@ use Rattle.hg_model.specs.Contents.{Content}
 use Rattle.hg_model.specs.Change.{empty_content, followed}
 use Rattle.hg_gate.specs.Batches.{IsClosed}
 use Rattle.hg_journals.specs.Journals.{HaveAllOrBehind, HaveJournals, behind}
-use Rattle.hg_root.specs.Checkpoints.{Checkpoint, HasCheckpoint}
+use Rattle.hg_root.specs.Checkpoints.{Checkpoint}
 use Rattle.hg_contents.specs.Images.{content_of}
-use Rattle.hg_images.specs.Images.{Gives, HasContent, HasNoContent, HaveSameContent, Image, count_of, with_journals}
+use Rattle.hg_images.specs.Images.{Gives, HasContent, HasJournals, HasNewest, HasNoContent, HaveSameContent, Image, count_of, with_journals}
 
 -- The root files are shorter than 2^64 bytes.
 abbrev pub HasShortRoots : Image → Type 0
 HasShortRoots image = (length image.root0 < 2 ^ 64) × (length image.root1 < 2 ^ 64)
-
--- its newest checkpoint, or none
-abbrev pub HasNewest : Option Checkpoint → Image → Type 0
-HasNewest checkpoint image = HasCheckpoint checkpoint image.root0 image.root1 image.slots
-
--- its journals keep these events behind this base
-abbrev pub Keeps : (base : ℕ) → List Named → Image → Type 0
-Keeps base events image = HaveJournals base events image.journal0 image.journal1
 
 -- An image whose root files are shorter than 2^64 bytes has one content.
 abbrev pub ContentIsUnique : Type 0
@@ -27,7 +19,7 @@ ContentIsUnique = (image : Image) (c d : Content) → HasShortRoots image → Ha
 
 -- The content of an image counts the events up to the last one that its journals keep.
 abbrev pub ContentsCountTheirEvents : Type 0
-ContentsCountTheirEvents = (image : Image) (base : ℕ) (events : List Named) (c : Content) → Keeps base events image → HasContent image c → c.events ≡ base + length events
+ContentsCountTheirEvents = (image : Image) (base : ℕ) (events : List Named) (c : Content) → HasJournals base events image → HasContent image c → c.events ≡ base + length events
 
 -- no root is open
 abbrev pub HasClosedRoots : Image → Type 0
@@ -35,7 +27,7 @@ HasClosedRoots image = IsClosed image.root0 × IsClosed image.root1
 
 -- The journals keep all events from the first on, and these give the content, each accepted after those before it.
 abbrev pub HasEventsAlone : Image → Content → Type 0
-HasEventsAlone image c = (events : List Named) × Keeps 0 events image × (followed empty_content events ≡ Some c)
+HasEventsAlone image c = (events : List Named) × HasJournals 0 events image × (followed empty_content events ≡ Some c)
 
 -- If no root is open, an image has the content of its journals' events from the first on, and no other;
 abbrev pub ClosedRootsAreAsBefore : Type 0
@@ -43,7 +35,7 @@ ClosedRootsAreAsBefore = (image : Image) (c : Content) → HasClosedRoots image 
 
 -- and if these begin later, it has none.
 abbrev pub ClosedRootsNeedAllEvents : Type 0
-ClosedRootsNeedAllEvents = (image : Image) (base : ℕ) (events : List Named) → HasClosedRoots image → Keeps base events image → 1 ≤ base → HasNoContent image
+ClosedRootsNeedAllEvents = (image : Image) (base : ℕ) (events : List Named) → HasClosedRoots image → HasJournals base events image → 1 ≤ base → HasNoContent image
 
 -- If a checkpoint has the content that the events so far give, then with any more events it gives the same as the former
 -- checkpoint or the empty content.
@@ -68,18 +60,18 @@ GivingUpGivesTheSame =
 abbrev pub GivingUpKeepsContent : Type 0
 GivingUpKeepsContent =
     (image : Image) (one other : List ℕ) (checkpoint : Option Checkpoint) (base next : ℕ) (events : List Named) → HasShortRoots image → HasNewest checkpoint image
-    → Keeps base events image → IsKeptNumber base events next → HaveAllOrBehind (count_of checkpoint) base next events one other
+    → HasJournals base events image → IsKeptNumber base events next → HaveAllOrBehind (count_of checkpoint) base next events one other
     → HaveSameContent image (with_journals image one other)
 
 -- A turn changes nothing: journals that keep the same events behind the same base give the same content.
 abbrev pub TurnsChangeNothing : Type 0
 TurnsChangeNothing =
-    (image : Image) (one other : List ℕ) (base : ℕ) (events : List Named) → Keeps base events image → HaveJournals base events one other → HaveSameContent image (with_journals image one other)
+    (image : Image) (one other : List ℕ) (base : ℕ) (events : List Named) → HasJournals base events image → HaveJournals base events one other → HaveSameContent image (with_journals image one other)
 
 -- If the base is above what the newest open root counts, the image has no content.
 abbrev pub BasesAboveTheRootHaveNoContent : Type 0
 BasesAboveTheRootHaveNoContent =
-    (image : Image) (checkpoint : Option Checkpoint) (base : ℕ) (events : List Named) → HasShortRoots image → HasNewest checkpoint image → Keeps base events image
+    (image : Image) (checkpoint : Option Checkpoint) (base : ℕ) (events : List Named) → HasShortRoots image → HasNewest checkpoint image → HasJournals base events image
     → count_of checkpoint < base → HasNoContent image
 
 -- There are an image with a content, a checkpoint of this content that is not open yet, and journals that gave up the events that
@@ -92,6 +84,6 @@ pub record LosesContent : Type 0 where
   pub one : List ℕ
   pub other : List ℕ
   pub events : List Named
-  pub keeps : Keeps 0 events image
+  pub keeps : HasJournals 0 events image
   pub gave_up : HaveAllOrBehind content.events 0 next events one other
   pub lost : HasNoContent (with_journals image one other)

@@ -4,9 +4,8 @@ use Rattle.hg_model.specs.declared.event.Named.{Named}
 use Rattle.hg_model.specs.Contents.{Content, summary}
 use Rattle.hg_model.specs.Verdicts.{IsAccepted}
 use Rattle.hg_model.specs.Change.{empty_content, followed}
-use Rattle.hg_journals.specs.Journals.{HaveJournals}
 use Rattle.hg_contents.specs.Runs.{AreAccepted, Run, Split, accepted}
-use Rattle.hg_images.specs.Images.{HasContent, Image}
+use Rattle.hg_images.specs.Images.{HasContent, HasJournals, Image}
 
 -- The image has the content of the acknowledged events or, in doubt, that of all accepted ones.
 abbrev pub StandsFor : Content → Run → Bool → Image → Type 0
@@ -15,7 +14,7 @@ StandsFor start run in_doubt image =
 
 -- The last event that the journals of the image keep has this number, whatever their base is.
 abbrev pub EndsWith : (number : ℕ) → Image → Type 0
-EndsWith number image = (base : ℕ) (events : List Named) → HaveJournals base events image.journal0 image.journal1 → base + length events ≡ number
+EndsWith number image = (base : ℕ) (events : List Named) → HasJournals base events image → base + length events ≡ number
 
 -- From the content of an image on, the rules accept the remaining events of a stopped run, and these give the content of
 -- the run that was never stopped.

@@ -3,7 +3,7 @@
 ghost use Rattle.hg_images.specs.Choices.{JointImages};
 ghost use Rattle.hg_images.specs.Laws.{BasesAboveTheRootHaveNoContent, CheckpointGivesTheSame, ClosedRootsAreAsBefore, ClosedRootsNeedAllEvents, ContentIsUnique, ContentsCountTheirEvents, GivingUpGivesTheSame, GivingUpKeepsContent, LosesContent, TurnsChangeNothing};
 ghost use Rattle.hg_images.specs.Runs.{PrefixIsSummed, RemainingGiveTheSame};
-ghost use Rattle.hg_images.specs.Steps.{CommitsStand, OpeningsStand, RetirementsStand, TurnsStand};
+ghost use Rattle.hg_images.specs.Steps.{CommitsStand, ContentsHaveABasis, OpeningsStand, RetirementsStand, TurnsStand};
 ghost use Rattle.hg_images.specs.Stores.{FactsBack};
 
 use hg_model::laws::following_is_the_summary;
@@ -60,6 +60,11 @@ pub fn bases_above_the_root_have_no_content()
 /// There is an image that loses its content: events are given up that a root counts which is not open yet.
 pub fn giving_up_too_early_loses_content()
     ensures { LosesContent }
+{}
+
+/// An image with a content has a basis at rest that gives it: from there a recovered store goes on.
+pub fn contents_have_a_basis()
+    ensures { ContentsHaveABasis }
 {}
 
 /// During a commit and after it the devices have what a basis says.
