@@ -74,8 +74,8 @@ BasesAboveTheRootHaveNoContent =
     (image : Image) (checkpoint : Option Checkpoint) (base : ℕ) (events : List Named) → HasShortRoots image → HasNewest checkpoint image → HasJournals base events image
     → count_of checkpoint < base → HasNoContent image
 
--- There are an image with a content, a checkpoint of this content that is not open yet, and journals that gave up the events that
--- this checkpoint counts: with these the image has no content.
+-- There are an image with a content, and journals that gave up events by the count of this content, as if a root of it were
+-- open: with these the image has no content.
 pub record LosesContent : Type 0 where
   pub image : Image
   pub content : Content
