@@ -1,0 +1,5 @@
+use Rattle.hg_images.proofs.Stepping as stepping
+use Rattle.hg_images.proofs.laws.retirements_stand.Goals as goal
+
+pub returns : goal.returns
+returns c = stepping.retirements
