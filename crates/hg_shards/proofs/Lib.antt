@@ -16,6 +16,8 @@ pub mod Agreement
 pub mod Cuts
 pub mod Leaving
 pub mod Sharding
+mod Logging
+mod Noting
 mod Offering
 mod Summaries
 mod Rows
