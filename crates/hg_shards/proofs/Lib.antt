@@ -19,5 +19,7 @@ pub mod Sharding
 mod Logging
 mod Noting
 mod Offering
+mod Together
+mod Filling
 mod Summaries
 mod Rows

@@ -1,5 +1,5 @@
 -- What an offered event does to the log of a shard.
-use Rattle.std.proofs.Common.{◌≡◌, ◌⊎◌, ℕ, zero, suc, ◌+◌, ◌-◌, ◌<◌, ◌≤◌, Bool, true, false, cond, List, [], ◌∷◌, ◌++◌, length, replicate, Result, Ok, Err, Option, Some, None, Contains, inl, inr, refl, sym, ap, ◌∙◌, subst, ⊎_elim, arith, append-nil, append_assoc, length-append}
+use Rattle.std.proofs.Common.{◌≡◌, ◌⊎◌, ℕ, ◌+◌, ◌-◌, ◌≤◌, Bool, true, false, List, [], ◌∷◌, ◌++◌, length, replicate, Result, Ok, Err, Option, Some, None, Contains, refl, sym, ap, ◌∙◌, subst, ⊎_elim, arith, append-nil, append_assoc, length-append}
 use Rattle.std.proofs.lemmas.Bool.{false≢true}
 use Rattle.std.proofs.lemmas.List.{length-replicate}
 use Rattle.std.specs.Prelude.{if◌then◌else◌}
@@ -14,7 +14,7 @@ use Rattle.hg_model.specs.declared.verdict.Verdict.{Verdict}
 use Rattle.hg_model.specs.declared.verdict.Verdict.TheVariants.{Accept, Duplicate, Refuse}
 use Rattle.hg_model.specs.Change.{after}
 use Rattle.hg_model.specs.Contents.{Content, events_of}
-use Rattle.hg_sets.specs.Interning.{Table, Interns, Adds, StandsAt, with_set}
+use Rattle.hg_sets.specs.Interning.{Table, Interns, Adds, StandsAt}
 use Rattle.hg_sets.specs.declared.fault.SetFault.{SetFault}
 use Rattle.hg_sets.specs.declared.fault.SetFault.TheVariants as faults
 use Rattle.hg_cells.specs.declared.paged.PagedWords.{PagedWords}
@@ -243,9 +243,9 @@ module _ (old : Shard) (d : Detector PagedWords) (l : Log) (answer : Result Answ
         logged = logged;
         log = (
           λ set.
-            ap (λ (sets : List (List ℕ)). has_set sets set)
-            (made_all (length (n ∷ trace)) d.sets.sets l.events logged (subst (λ (k : ℕ). AllByRecursion (λ e. e ≤ k) l.events) (one ∙ ap (λ k. k + 1) (sym all) ∙ (let e : length trace + 1 ≡ length (n ∷ trace) = omega arith in e)) log_is.past))
-            ∙ has.members set,
+              ap (λ (sets : List (List ℕ)). has_set sets set)
+              (made_all (length (n ∷ trace)) d.sets.sets l.events logged (subst (λ (k : ℕ). AllByRecursion (λ e. e ≤ k) l.events) (one ∙ ap (λ k. k + 1) (sym all) ∙ (let e : length trace + 1 ≡ length (n ∷ trace) = omega arith in e)) log_is.past))
+              ∙ has.members set,
           log_stays trace all own.log,
         );
       }

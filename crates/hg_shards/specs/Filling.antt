@@ -1,5 +1,5 @@
 -- The event at which the parts of a trace have more sets together than a table has room for.
-use Rattle.std.specs.Prelude.{◌≡◌, ℕ, ◌+◌, ◌<◌, ◌≤◌, Bool, true, false, nat_le, nat_lt, List, [], ◌∷◌, ◌++◌, length, map, get_or, slice_get, Option, Some, None, Result, Ok, Err, if◌then◌else◌}
+use Rattle.std.specs.Prelude.{◌≡◌, ℕ, ◌+◌, ◌<◌, ◌≤◌, Bool, true, false, nat_le, nat_lt, List, [], ◌∷◌, ◌++◌, length, get_or, slice_get, Option, Some, None, if◌then◌else◌}
 use Rattle.std.specs.List.{sum_by}
 use Rattle.hg_model.specs.declared.event.Named.{Named}
 use Rattle.hg_model.specs.Contents.{events_of}
@@ -56,18 +56,18 @@ earlier_of (Some other) part set (Some event) = if nat_lt event other.event then
 abbrev pub NoneBefore : ℕ → List (Option ℕ) → Type 0
 NoneBefore event heads = (k other : ℕ) → get_or heads k None ≡ Some other → event ≤ other
 
--- The set that comes next is a part's first that was not taken, and no other part's was made before. There is none where all were
--- taken.
-abbrev pub IsFirstHead : List (Option ℕ) → List ℕ → Option Next → Type 0
-IsFirstHead heads taken None = (k : ℕ) → get_or heads k None ≡ None
-IsFirstHead heads taken (Some next) =
-    (next.part < length heads) × (next.set ≡ get_or taken next.part 0) × (get_or heads next.part None ≡ Some next.event) × NoneBefore next.event heads
+-- The set that comes next, of so many parts with these heads, is a part's first that was not taken, and no other part's was made
+-- before. There is none where all were taken.
+abbrev pub IsFirstHead : ℕ → List (Option ℕ) → List ℕ → Option Next → Type 0
+IsFirstHead count heads taken None = (k : ℕ) → get_or heads k None ≡ None
+IsFirstHead count heads taken (Some next) =
+    (next.part < count) × (next.set ≡ get_or taken next.part 0) × (get_or heads next.part None ≡ Some next.event) × NoneBefore next.event heads
 
+-- the same of shards of which so many sets were taken
 abbrev pub IsNextMade : List Shard → List ℕ → Option Next → Type 0
-IsNextMade shards taken next = IsFirstHead (heads_of shards taken) taken next
+IsNextMade shards taken next = IsFirstHead (length shards) (heads_of shards taken) taken next
 
 -- A table that was asked for some sets is asked for one more: it has it then, or it is full.
-abbrev pub PutsSet : {E : Type 0} → Table → List ℕ → Result Bool E → Table → Type 0
-PutsSet old set (Ok true) new = (limit : ℕ) (sets : List (List ℕ)) → HasSets limit sets old → HasSets limit (sets ++ set ∷ []) new
-PutsSet old set (Ok false) new = (limit : ℕ) (sets : List (List ℕ)) → HasSets limit sets old → limit < size_with (sets ++ set ∷ [])
-PutsSet old set (Err e) new = Unit {0}
+abbrev pub PutsSet : Table → List ℕ → Bool → Table → Type 0
+PutsSet old set true new = (limit : ℕ) (sets : List (List ℕ)) → HasSets limit sets old → HasSets limit (sets ++ set ∷ []) new
+PutsSet old set false new = (limit : ℕ) (sets : List (List ℕ)) → HasSets limit sets old → limit < size_with (sets ++ set ∷ [])

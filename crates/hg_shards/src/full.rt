@@ -1,6 +1,6 @@
 //! The event at which the parts of a trace have more sets together than one table has room for.
 
-ghost use Rattle.std.specs.Prelude.{◌≡◌, ◌<◌, ◌≤◌, All, None, Ok, length, nat_le, IfOk};
+ghost use Rattle.std.specs.Prelude.{◌≡◌, ◌<◌, ◌≤◌, ◌^◌, All, None, Ok, length, nat_le, IfOk};
 ghost use Rattle.hg_sets.specs.Interning.{set_at};
 ghost use Rattle.hg_shards.specs.Sharding.{IsLogOf};
 ghost use Rattle.hg_shards.specs.Filling.{IsFirstFull, IsNextMade, PutsSet, earlier_of, logged};
@@ -68,10 +68,13 @@ fn next_made(parts: &[Shard], taken: &[usize]) -> Option<Next>
 /// Puts a set of a part's table into another one: false where that one is full.
 fn put(table: &mut SetTable, part: &Shard, set: usize) -> Result<bool, AllocError>
     requires { set < length part.now.detector.sets.sets }
-    ensures { PutsSet table.old (set_at part.now.detector.sets.sets set) result table.new }
+    ensures puts { IfOk result (λ put. PutsSet table.old (set_at part.now.detector.sets.sets set) put table.new) }
+    ensures number { set < 2 ^ 32 }
 {
-    let members = part.detector().sets().members(set as u32);
-    match table.intern(members) {
+    let sets = part.detector().sets();
+    let count = sets.len() as usize;
+    prove!(set < count);
+    match table.intern(sets.members(set as u32)) {
         Ok(_) => Ok(true),
         Err(SetFault::Full) => Ok(false),
         Err(SetFault::OutOfMemory) => Err(AllocError),
@@ -81,11 +84,7 @@ fn put(table: &mut SetTable, part: &Shard, set: usize) -> Result<bool, AllocErro
 /// The number of the event that one detector of the whole trace refuses, since its table has room for `limit` sets and is full, or
 /// None where it takes all events: by the logs of the shards of all parts. Where these have no more sets together, nothing is
 /// compared and no memory is taken.
-pub fn first_full(
-    alloc: Global,
-    limit: u32,
-    parts: &[Shard],
-) -> Result<Option<u64>, AllocError>
+pub fn first_full(alloc: Global, limit: u32, parts: &[Shard]) -> Result<Option<u64>, AllocError>
     requires least { 1 ≤ limit }
     requires greatest { limit ≤ MOST_SETS }
     requires logs { All (λ s. IsLogOf s.detector s.log) parts.now }

@@ -1,4 +1,4 @@
-use Rattle.std.proofs.Common.{◌≡◌, ◌+◌, ◌-◌, ℕ, List, [], ◌∷◌, ◌++◌, length, replicate, sym, ap, ◌∙◌, arith, append_assoc}
+use Rattle.std.proofs.Common.{◌≡◌, ◌+◌, ◌-◌, ℕ, List, [], ◌∷◌, ◌++◌, length, replicate, ap, ◌∙◌, arith, append_assoc}
 use Rattle.std.proofs.lemmas.List.{replicate-append-replicate}
 use Rattle.hg_shards.proofs.set_log.fill_up_to.Goals as goal
 
@@ -10,10 +10,10 @@ loop-preserved c =
     let lt = c.loop-test.true in
     let more : c.loop.counter - length start + 1 ≡ c.loop.counter + 1 - length start = omega (arith, le) in (
       c.push_reserved.ensures.items
-        ∙ ap (λ (xs : List ℕ). xs ++ event ∷ []) c.loop.invariant.0
-        ∙ append_assoc start (replicate (c.loop.counter - length start) event) (event ∷ [])
-        ∙ ap (λ (xs : List ℕ). start ++ xs) (replicate-append-replicate (c.loop.counter - length start) 1 event)
-        ∙ ap (λ n. start ++ replicate n event) more,
+          ∙ ap (λ (xs : List ℕ). xs ++ event ∷ []) c.loop.invariant.0
+          ∙ append_assoc start (replicate (c.loop.counter - length start) event) (event ∷ [])
+          ∙ ap (λ (xs : List ℕ). start ++ xs) (replicate-append-replicate (c.loop.counter - length start) 1 event)
+          ∙ ap (λ n. start ++ replicate n event) more,
       c.push_reserved.ensures.capacity ∙ c.loop.invariant.1,
       omega (arith, le),
       omega (arith, lt),
