@@ -5,7 +5,7 @@ use Rattle.hg_shards.specs.Alike.{AreAlike, AgreeWithin, DoTheSame}
 use Rattle.hg_shards.specs.Laws.{AgreementIsLawful}
 
 module _ (within : ℕ → Bool) where
-  itself : (es : List Event) → AgreeWithin within es es
+  pub itself : (es : List Event) → AgreeWithin within es es
   itself [] = tt
   itself (e ∷ es) = (inl refl, itself es)
 

@@ -75,7 +75,7 @@ apart_from : (x : List ℕ) (sets : List (List ℕ)) → has_set sets x ≡ fals
 apart_from x [] h = tt
 apart_from x (y ∷ sets) h = let parts = or_parts (pointwise nat_eq x y) (has_set sets x) h in (parts.0, apart_from x sets parts.1)
 
-unique_distinct : (sets : List (List ℕ)) → IsDistinct (pointwise nat_eq) (unique_keys (pointwise nat_eq) sets)
+pub unique_distinct : (sets : List (List ℕ)) → IsDistinct (pointwise nat_eq) (unique_keys (pointwise nat_eq) sets)
 unfolding IsDistinct
 unique_distinct [] = tt
 unique_distinct (x ∷ sets) = by (has_set sets x) refl (unique_distinct sets)

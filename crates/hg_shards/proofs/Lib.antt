@@ -16,6 +16,10 @@ pub mod Agreement
 pub mod Cuts
 pub mod Leaving
 pub mod Sharding
+mod Logging
+mod Noting
 mod Offering
+mod Together
+mod Filling
 mod Summaries
 mod Rows

@@ -1,5 +1,5 @@
 -- What the offer of an event gives a detector that knows the words of a group.
-use Rattle.std.proofs.Common.{◌≡◌, ℕ, ◌+◌, ◌*◌, ◌/◌, ◌<◌, nat_eq, nat_lt, arith, ◌≤◌, Bool, true, false, cond, ◌&&◌, List, [], ◌∷◌, ◌++◌, filter, Result, Ok, Err, inl, refl, sym, ap, ◌∙◌, subst, append-nil}
+use Rattle.std.proofs.Common.{◌≡◌, ℕ, ◌+◌, ◌*◌, ◌/◌, ◌<◌, nat_eq, nat_lt, arith, ◌≤◌, Bool, true, false, cond, ◌&&◌, List, [], ◌∷◌, ◌++◌, filter, length, Result, Ok, Err, inl, ⊎_elim, refl, sym, ap, ◌∙◌, subst, append-nil}
 use Rattle.std.proofs.lemmas.Bool.{eqb-false, false≢true, lt-ltb, or_parts}
 use Rattle.std.specs.Prelude.{if◌then◌else◌}
 use Rattle.std.specs.List.{flat_map}
@@ -33,12 +33,14 @@ use Rattle.hg_detect.specs.Engine.{AtPresent}
 use Rattle.hg_detect.specs.Making.{AsksBy, sets_asked, sets_in}
 use Rattle.hg_detect.specs.Shown.{ShownDetector, content, verdict_on}
 use Rattle.hg_shards.specs.Alike.{AreAlike, PassesBy, ReadBy, StaysWithin, Untouched, WrittenBy, touch}
-use Rattle.hg_shards.specs.Asking.{HasSets, accessed, asked, asked_at_last, size_with}
-use Rattle.hg_shards.specs.Sharding.{AnswersShard, BeginsFor, Follows, HasForm, IsOwnPart, Knows, own_words, verdict_after, with_accepted, words_of}
+use Rattle.hg_shards.specs.Asking.{HasSets, accessed, asked, asked_at_last, has_set, size_with}
+use Rattle.hg_shards.specs.Logging.{Log, first_log, made_by, noted}
+use Rattle.hg_shards.specs.Sharding.{AnswersAfter, AnswersShard, BeginsFor, Follows, HasForm, IsLogOf, IsOwnPart, IsReady, Knows, LogGoes, own_words, verdict_after, with_accepted, words_of}
 use Rattle.hg_shards.specs.declared.shard.Shard.{Shard}
 use Rattle.hg_shards.proofs.Asking.{sets_are_lem}
 use Rattle.hg_shards.proofs.Tables.{first_has}
 use Rattle.hg_shards.proofs.Cuts.{same_verdict_cut}
+use Rattle.hg_shards.proofs.Noting.{Counts, Grows, accept_of, accepted_answer, log_is, log_stays, sets_stay}
 use Rattle.hg_shards.proofs.Lives.{same_touch}
 use Rattle.hg_shards.proofs.Reports.{accessed_words, is_access}
 use Rattle.hg_shards.proofs.Sets.{contains_filter, has_first}
@@ -60,6 +62,11 @@ pub own_hold : (within : ℕ → Bool) (c : Content) (k : HoldKind) (t l : ℕ) 
 own_hold within c holds.Lock t l = record { reports = refl; sets = refl }
 own_hold within c holds.RdLock t l = record { reports = refl; sets = refl }
 own_hold within c holds.Unlock t l = record { reports = refl; sets = refl }
+
+pub no_sets_of_lock : (c : Content) (k : HoldKind) (t l : ℕ) → sets_asked c (event_on k t l) ≡ []
+no_sets_of_lock c holds.Lock t l = refl
+no_sets_of_lock c holds.RdLock t l = refl
+no_sets_of_lock c holds.Unlock t l = refl
 
 -- what passes by accesses no word of the group
 none_accessed : (within : ℕ → Bool) (e : Event) → PassesBy within e → filter within (accessed e) ≡ []
@@ -84,11 +91,6 @@ no_access (Write a) no_read no_write = absurd (no_write a refl)
 no_access e no_read no_write = refl
 
 -- ---- the answers
-
-accept_of : (v : Verdict) (may_refuse : Refusal → Type 0) → Applies v may_refuse (Ok answers.Accepted) → v ≡ Accept
-accept_of Accept may_refuse h = refl
-accept_of (Duplicate k) may_refuse h = absurd (cc)
-accept_of (Refuse r) may_refuse h = absurd (cc)
 
 -- What the offer of an event gives, as far as the group goes: from a table of sets to another, and to a content.
 pub record Offers (within : ℕ → Bool) (trace : List Named) (n : Named) (answer : Result Answer Refusal) (may_refuse : Refusal → Type 0) (old new : Table) (c : Content) (unchanged : Type 0) : Type 0 where
@@ -243,28 +245,43 @@ none_passes within write a own is by = at (within w) refl
     at false outside = touched_by write (is.stays w outside)
 
 -- What is known after each trace that the shard followed is its answer.
-pub shard_answers : (old : Shard) (d : Detector PagedWords) (n : Named) (answer : Result Answer Refusal) → old.part < old.count → IsWhole d
-    → ((trace : List Named) → Follows trace old → Offers (own_words old) trace n answer (λ r. r ≡ OutOfMemory) old.detector.sets d.sets (content_of d) (d ≡ old.detector)) → AnswersShard old n answer (record old { detector = d })
-shard_answers old d n answer part whole offers =
-    record {
-      rest = refl;
-      ready = record { part = part; whole = whole };
-      after_any = λ trace k.
-          let o = offers trace k in
-          record {
-            answered = o.answered;
-            follows = o.knows;
-            sets = o.sets;
-            same = λ other. ap (λ (x : Detector PagedWords). record old { detector = x }) (o.same other);
-            held = o.held;
-            full = o.full;
-          };
-    }
+module _ (old : Shard) (d : Detector PagedWords) (l : Log) (n : Named) (answer : Result Answer Refusal) (ready : IsReady old) (grows : Grows old.detector.sets d.sets) (counts : Counts old.detector answer d)
+    (goes : LogGoes old answer (record old { detector = d; log = l })) where
+  abbrev Gives : List Named → Type 0
+  Gives trace = Offers (own_words old) trace n answer (λ r. r ≡ OutOfMemory) old.detector.sets d.sets (content_of d) (d ≡ old.detector)
+
+  same_log : (v : Verdict) → Applies v (λ r. r ≡ OutOfMemory) answer → (v ≡ Accept → ⊥) → l ≡ old.log
+  same_log v applies other =
+      ⊎_elim
+      (λ (s : (l ≡ old.log) × (is_accepted answer ≡ true → d.sets ≡ old.detector.sets)). s.0)
+      (λ (s : (is_accepted answer ≡ true) × (l ≡ record old.log { events = noted old.log.events (length d.sets.sets) d.parts.events })).
+      absurd (other (accept_of v (λ r. r ≡ OutOfMemory) (subst (λ (r : Result Answer Refusal). Applies v (λ r. r ≡ OutOfMemory) r) (accepted_answer answer s.0) applies))))
+      goes
+
+  answer_after : (trace : List Named) → Follows trace old → Gives trace → AnswersAfter trace old n answer (record old { detector = d; log = l })
+  answer_after trace k o =
+      record {
+        answered = o.answered;
+        follows = o.knows;
+        log = log_stays old d l answer ready.log grows counts goes trace k.content.events;
+        sets = λ limit own was. sets_stay old d l answer ready.log grows counts goes limit trace n k.content.events own (ap is_accepted was) (o.sets limit own.sets was);
+        same = λ other. (λ i. record old { detector = o.same other i; log = same_log (verdict_after trace n) o.answered other i });
+        held = o.held;
+        full = λ limit own. o.full limit own.sets;
+      }
+
+  pub shard_answers : IsWhole d → ((trace : List Named) → Follows trace old → Gives trace) → AnswersShard old n answer (record old { detector = d; log = l })
+  shard_answers whole offers =
+      record {
+        rest = refl;
+        ready = record { part = ready.part; whole = whole; log = log_is old d l answer ready.log grows counts goes };
+        after_any = λ trace k. answer_after trace k (offers trace k);
+      }
 
 -- The first shard follows the empty trace.
-pub shard_begins : (count part limit : ℕ) (d : Detector PagedWords) → part < count → IsWhole d → 1 ≤ limit → content_of d ≡ empty_content → d.sets ≡ first_table limit
-    → BeginsFor count part limit (record { detector = d; count = count; part = part })
-shard_begins count part limit d lt whole some empty sets =
+pub shard_begins : (count part limit : ℕ) (d : Detector PagedWords) (l : Log) → part < count → IsWhole d → 1 ≤ limit → content_of d ≡ empty_content → d.sets ≡ first_table limit → l ≡ first_log limit
+    → BeginsFor count part limit (record { detector = d; count = count; part = part; log = l })
+shard_begins count part limit d l lt whole some empty sets log =
     let within = words_of count part in
     let nothing : Knows within [] empty_content = record {
       accepted = tt;
@@ -276,10 +293,24 @@ shard_begins count part limit d lt whole some empty sets =
     record {
       count_is = refl;
       part_is = refl;
-      ready = record { part = lt; whole = whole };
+      ready = record { part = lt; whole = whole; log = is_log };
       follows = subst (λ (c : Content). Knows within [] c) (sym empty) nothing;
-      sets = subst (λ (t : Table). HasSets limit [] t) (sym sets) (first_has limit some);
+      sets = record {
+        sets = subst (λ (t : Table). HasSets limit [] t) (sym sets) (first_has limit some);
+        logged = ap (λ (x : Log). length x.events) log ∙ ap (λ (t : Table). length t.sets) (sym sets);
+        log = λ set. (λ i. has_set (made_by 0 (sets i).sets (log i).events) set);
+      };
     }
+  where
+    is_log : IsLogOf d l
+    is_log =
+        subst (λ (x : Log). IsLogOf d x) (sym log)
+        (record {
+          limit = ap (λ (t : Table). t.limit) (sym sets);
+          within = let e = ap (λ (t : Table). length t.sets) sets in omega (arith, e);
+          rises = (tt, tt);
+          past = (omega arith, tt);
+        })
 
 -- an accepted access that was passed over is accepted
 pub passed_answer : (within : ℕ → Bool) (trace : List Named) (c : Content) → Knows within trace c → (n : Named) (answer : Result Answer Refusal) → verdict_after trace n ≡ Accept

@@ -50,7 +50,7 @@ module _ (limit : ℕ) where
             ∙ ap (λ b. pointwise nat_eq q [] || b) (sym (has_both sets (set ∷ []) q));
       }
 
-  interned : (sets : List (List ℕ)) (set : List ℕ) (id : ℕ) (old new : Table) → HasSets limit sets old → Interns old set (Ok id) new → HasSets limit (sets ++ set ∷ []) new
+  pub interned : (sets : List (List ℕ)) (set : List ℕ) (id : ℕ) (old new : Table) → HasSets limit sets old → Interns old set (Ok id) new → HasSets limit (sets ++ set ∷ []) new
   interned sets set id old new h i =
       ⊎_elim
       (λ (there : (k : ℕ) × StandsAt old.sets set k × (Ok id ≡ Ok k) × (new ≡ old)). subst (HasSets limit (sets ++ set ∷ [])) (sym there.3) (found sets set there.0 old h there.1))
@@ -91,7 +91,7 @@ module _ (limit : ℕ) where
           (λ new. or_right (pointwise nat_eq q []) _ (last q new))
           (or_cases (has_set t.sets q) (has_set (set ∷ []) q) (sym (has_both t.sets (set ∷ []) q) ∙ has))
 
-  refused_full : (before rest : List (List ℕ)) (set : List ℕ) (old new : Table) (fault : SetFault) → HasSets limit before old → Interns old set (Err fault) new → Some Full ≡ Some fault → limit < size_with (before ++ set ∷ rest)
+  pub refused_full : (before rest : List (List ℕ)) (set : List ℕ) (old new : Table) (fault : SetFault) → HasSets limit before old → Interns old set (Err fault) new → Some Full ≡ Some fault → limit < size_with (before ++ set ∷ rest)
   refused_full before rest set old new fault h i is =
       ⊎_elim
       (λ (there : (k : ℕ) × StandsAt old.sets set k × (Err Full ≡ Ok k) × (new ≡ old)). absurd (cc there.2))

@@ -1,6 +1,6 @@
 -- What a shard knows of a trace: all that concerns the words of one part, and no other words.
-use Rattle.std.specs.Prelude.{◌≡◌, ◌⊎◌, ℕ, ◌*◌, ◌/◌, ◌%◌, ◌^◌, ◌<◌, Bool, false, List, [], ◌∷◌, length, map, sum, take, Option, Some, None, Result, Ok, Err, if◌then◌else◌}
-use Rattle.std.specs.List.{range_with_len}
+use Rattle.std.specs.Prelude.{◌≡◌, ◌⊎◌, ℕ, ◌*◌, ◌/◌, ◌%◌, ◌^◌, ◌<◌, ◌≤◌, Bool, true, false, List, [], ◌∷◌, length, map, sum, take, Option, Some, None, Result, Ok, Err, if◌then◌else◌}
+use Rattle.std.specs.List.{AllByRecursion, range_with_len}
 use Rattle.hg_model.specs.declared.limits.TheConstants.{MOST_REPORTS}
 use Rattle.hg_model.specs.declared.event.Access.{Access}
 use Rattle.hg_model.specs.declared.event.Event.{Event}
@@ -17,13 +17,15 @@ use Rattle.hg_model.specs.Verdicts.{IsAccepted, bad_length, past_address_end, st
 use Rattle.hg_cells.specs.declared.paged.PagedWords.{PagedWords}
 use Rattle.hg_cells.specs.declared.words.Words as words
 use Rattle.hg_detect.specs.declared.detector.Answer.{Answer}
+use Rattle.hg_detect.specs.declared.detector.Detector.{Detector}
 use Rattle.hg_detect.specs.declared.detector.Answer.TheVariants.{Accepted}
 use Rattle.hg_detect.specs.Answering.{Applies, IsOnLock, is_accepted}
 use Rattle.hg_detect.specs.Growing.{MayGrow}
 use Rattle.hg_detect.specs.Memory.{IsWhole, content_of}
 use Rattle.hg_shards.specs.declared.shard.Shard.{Shard}
 use Rattle.hg_shards.specs.Alike.{AreAlike, ContentsAgree, IsLawfulCut, PassesBy, StaysWithin, reports_within}
-use Rattle.hg_shards.specs.Asking.{HasSets, accessed, asked, size_with}
+use Rattle.hg_shards.specs.Asking.{HasSets, accessed, asked, has_set, size_with}
+use Rattle.hg_shards.specs.Logging.{Log, NeverFalls, made_by, noted}
 use Rattle.hg_shards.specs.Merging.{merged}
 use Rattle.hg_shards.specs.Parts.{by_page, words_of_part}
 
@@ -70,18 +72,45 @@ IsCutTo within a None = (write : Bool) → HasForm write a → PassesBy within (
 abbrev pub own_words : Shard → ℕ → Bool
 own_words s = words_of s.count s.part
 
+-- The log of a shard is of the sets of its table, in order. Each of its events is one that the detector has counted.
+pub record IsLogOf (d : Detector PagedWords) (log : Log) : Type 0 where
+  pub limit : log.limit ≡ d.sets.limit
+  pub within : length log.events ≤ length d.sets.sets
+  pub rises : NeverFalls log.events
+  pub past : AllByRecursion (λ event. event ≤ d.parts.events) log.events
+
 -- The part is one of so many, and the detector's cells name only segments and sets that exist: the shard may be offered an event.
 pub record IsReady (s : Shard) : Type 0 where
   pub part : s.part < s.count
   pub whole : IsWhole s.detector
+  pub log : IsLogOf s.detector s.log
 
 -- The shard was offered the accepted events of a trace, the newest first, and knows of its words what is to be known of them.
 abbrev pub Follows : List Named → Shard → Type 0
 Follows trace s = Knows (own_words s) trace (content_of s.detector)
 
--- Its table has room for `limit` sets, and has those that the trace asks for, for its words.
-abbrev pub HasOwnSets : ℕ → List Named → Shard → Type 0
-HasOwnSets limit trace s = HasSets limit (asked (own_words s) (events_of trace)) s.detector.sets
+-- P holds of the trace, and of what it was before each of its events.
+abbrev pub AtEachEvent : (List Named → Type 0) → List Named → Type 0
+AtEachEvent P [] = P []
+AtEachEvent P (n ∷ past) = P (n ∷ past) × AtEachEvent P past
+
+-- the sets of the shard's table that were made up to event k, by its log
+abbrev pub made_in : ℕ → Shard → List (List ℕ)
+made_in k s = made_by k s.detector.sets.sets s.log.events
+
+-- The sets that were made up to the trace's last event are those that it asks for, for words of the shard, and the empty set.
+abbrev pub HasMade : Shard → List Named → Type 0
+HasMade s trace = (set : List ℕ) → has_set (made_in (length trace) s) set ≡ has_set ([] ∷ asked (own_words s) (events_of trace)) set
+
+-- The log says for each event of the trace which sets its words had asked for by then.
+abbrev pub LogsOwnSets : List Named → Shard → Type 0
+LogsOwnSets trace s = AtEachEvent (HasMade s) trace
+
+-- Its table has room for `limit` sets, and has those that the trace asks for, for its words. The log has each of them.
+pub record HasOwnSets (limit : ℕ) (trace : List Named) (s : Shard) : Type 0 where
+  pub sets : HasSets limit (asked (own_words s) (events_of trace)) s.detector.sets
+  pub logged : length s.log.events ≡ length s.detector.sets.sets
+  pub log : LogsOwnSets trace s
 
 -- The shard of this part follows the empty trace, and its table has room for `limit` sets.
 pub record BeginsFor (count part limit : ℕ) (s : Shard) : Type 0 where
@@ -95,6 +124,13 @@ pub record BeginsFor (count part limit : ℕ) (s : Shard) : Type 0 where
 abbrev pub with_accepted : Result Answer Refusal → Named → List Named → List Named
 with_accepted answer n trace = if is_accepted answer then n ∷ trace else trace
 
+-- The log after an offer: as it was where the event was refused or the table stayed, or with what the table has more, under the
+-- number of the event.
+abbrev pub LogGoes : Shard → Result Answer Refusal → Shard → Type 0
+LogGoes old answer new =
+    ((new.log ≡ old.log) × (is_accepted answer ≡ true → new.detector.sets ≡ old.detector.sets))
+    ⊎ ((is_accepted answer ≡ true) × (new.log ≡ record old.log { events = noted old.log.events (length new.detector.sets.sets) new.detector.parts.events }))
+
 -- the verdict of the rules on an event after the whole trace
 abbrev pub verdict_after : List Named → Named → Verdict
 verdict_after trace n = verdict (standing_of (summary trace)) n
@@ -102,10 +138,12 @@ verdict_after trace n = verdict (standing_of (summary trace)) n
 -- What the offer of an event gives a shard that followed a trace. The rules answer as they do after the whole trace, and what they
 -- accept is refused for want of sets or of memory alone. The shard follows the trace with the event where it was accepted, and the
 -- trace as it was where it was not; what the rules do not accept changes nothing. An event on a lock needs no room. Its table has the
--- sets that its words ask for, and is full only where these are more than it has room for.
+-- sets that its words ask for, and is full only where these are more than it has room for. Of the events before it the log says what
+-- it said, whatever the answer.
 pub record AnswersAfter (trace : List Named) (old : Shard) (n : Named) (answer : Result Answer Refusal) (new : Shard) : Type 0 where
   pub answered : Applies (verdict_after trace n) (λ r. r ≡ OutOfMemory) answer
   pub follows : Follows (with_accepted answer n trace) new
+  pub log : LogsOwnSets trace old → LogsOwnSets trace new
   pub sets : (limit : ℕ) → HasOwnSets limit trace old → answer ≡ Ok Accepted → HasOwnSets limit (n ∷ trace) new
   pub same : (verdict_after trace n ≡ Accept → ⊥) → new ≡ old
   pub held : IsOnLock n.event → verdict_after trace n ≡ Accept → answer ≡ Ok Accepted
@@ -113,7 +151,7 @@ pub record AnswersAfter (trace : List Named) (old : Shard) (n : Named) (answer :
 
 -- The same after any trace that the shard followed. Its part stays, and it may be offered the next event.
 pub record AnswersShard (old : Shard) (n : Named) (answer : Result Answer Refusal) (new : Shard) : Type 0 where
-  pub rest : new ≡ record old { detector = new.detector }
+  pub rest : new ≡ record old { detector = new.detector; log = new.log }
   pub ready : IsReady new
   pub after_any : (trace : List Named) → Follows trace old → AnswersAfter trace old n answer new
 

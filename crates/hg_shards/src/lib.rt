@@ -1,6 +1,8 @@
 //! The laws by which a trace is judged in parts, each of them the words of some pages, and the reports of the parts are merged.
 #![tactic(auto)]
 
+pub mod full;
 pub mod laws;
 pub mod merge;
+pub mod set_log;
 pub mod shard;

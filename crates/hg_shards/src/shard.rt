@@ -3,8 +3,10 @@
 ghost use Rattle.std.specs.Prelude.{◌≡◌, ◌<◌, ◌≤◌, IfOk, IfErr};
 ghost use Rattle.hg_model.specs.Accessing.{access_named};
 ghost use Rattle.hg_model.specs.Holding.{hold_named};
-ghost use Rattle.hg_shards.specs.Sharding.{AnswersShard, BeginsFor, IsCutTo, IsReady, PassesOthers, WantsOwnRoom, page_part, words_of};
+ghost use Rattle.hg_detect.specs.Answering.{AnswersOffer, is_accepted};
+ghost use Rattle.hg_shards.specs.Sharding.{AnswersShard, BeginsFor, IsCutTo, IsReady, LogGoes, PassesOthers, WantsOwnRoom, page_part, words_of};
 
+use crate::set_log::SetLog;
 use hg_cells::paged::PagedWords;
 use hg_cells::words::Words;
 use hg_detect::detector::Answer;
@@ -83,6 +85,18 @@ fn own_bytes(count: u64, part: u64, access: &Access) -> Option<Access>
     None
 }
 
+/// Whether the event was accepted.
+#[inline(always)]
+fn was_accepted(answer: &Result<Answer, Refusal>) -> bool
+    ensures { result ≡ is_accepted answer.now }
+{
+    match answer {
+        Ok(Answer::Accepted) => true,
+        Ok(Answer::Duplicate(_)) => false,
+        Err(_) => false,
+    }
+}
+
 /// A detector of the words of one part, by pages of 256 words. It is offered each event of a trace, and judges what
 /// concerns its own words. A contract sees its parts.
 #[derive(Drop)]
@@ -90,6 +104,8 @@ pub struct Shard {
     detector: MemoryDetector,
     count: u64,
     part: u64,
+    /// For each set of the detector's table, the event of the trace that asked for it first.
+    log: SetLog,
 }
 
 impl Shard {
@@ -103,11 +119,39 @@ impl Shard {
         ensures refusal { IfErr result (λ r. r ≡ Refusal.OutOfMemory) }
     {
         let detector = new_detector(alloc, most_sets)?;
+        let Ok(log) = SetLog::with_limit(alloc, most_sets) else {
+            return Err(Refusal::OutOfMemory);
+        };
         Ok(Shard {
             detector,
             count,
             part,
+            log,
         })
+    }
+
+    /// Offers the own part of a read or a write to the detector, and notes the sets that its table then has more.
+    #[inline(always)]
+    fn judge(
+        &mut self,
+        source: u16,
+        number: u64,
+        own: Access,
+        write: bool,
+    ) -> Result<Answer, Refusal>
+        requires ready { IsReady self.old }
+        ensures answers { AnswersOffer ⟦<PagedWords as Words>⟧ self.old.detector (access_named source number write own) result self.new.detector }
+        ensures log { LogGoes self.old result self.new }
+        ensures rest { self.new ≡ record self.old { detector = self.new.detector; log = self.new.log } }
+    {
+        let answer = self.detector.touch(source, number, own, write);
+        if !was_accepted(&answer) {
+            return answer;
+        }
+        let sets = self.detector.sets().len();
+        let event = self.detector.state().events();
+        self.log.note(sets, event);
+        answer
     }
 
     /// Offers a read or a write under the number that its source gave it. It is judged where it touches words of the part, and
@@ -126,7 +170,7 @@ impl Shard {
         ensures grows { WantsOwnRoom ⟦<PagedWords as Words>⟧ self.old (access_named source number write access) result }
     {
         match own_bytes(self.count, self.part, &access) {
-            Some(own) => self.detector.touch(source, number, own, write),
+            Some(own) => self.judge(source, number, own, write),
             None => self.detector.pass(source, number, access),
         }
     }
@@ -152,6 +196,13 @@ impl Shard {
             Event::Write(access) => self.touch(named.source, named.number, *access, true),
             _ => self.detector.apply(named),
         }
+    }
+
+    /// For each set of the detector's table, the event of the trace that asked for it first.
+    pub fn log(&self) -> &SetLog
+        ensures { result.now ≡ self.now.log }
+    {
+        &self.log
     }
 
     /// The detector of the part's words.

@@ -3,6 +3,7 @@ use Rattle.hg_model.specs.declared.event.Event.{Event}
 use Rattle.hg_cells.specs.contracts.paged.PagedWordsWords.TheImpl as paged
 use Rattle.hg_detect.specs.Memory.{content_of}
 use Rattle.hg_shards.specs.Sharding.{WantsOwnRoom, own_words}
+use Rattle.hg_shards.proofs.Noting.{asks_none_of, offer_counts, offer_grows, offer_keeps}
 use Rattle.hg_shards.proofs.Offering.{no_access, offers_own, own_other, shard_answers}
 use Rattle.hg_shards.proofs.Sharding.{same_verdict}
 use Rattle.hg_shards.proofs.shard.Shard.offer.Goals as goal
@@ -11,9 +12,15 @@ pub returns-in_default-clause-answers : goal.returns-in_default-clause-answers
 returns-in_default-clause-answers c =
     let old = c.args.self.now in
     let n = c.args.named.now in
-    shard_answers old c.apply.new.self n c.apply.result c.requires.ready.part c.apply.ensures.lawful
-    (λ trace k. offers_own _ (own_words old) trace old.detector k n c.apply.result c.apply.new.self
-    (own_other (own_words old) (content_of old.detector) n.event c.in_default.not-Read c.in_default.not-Write) c.requires.ready.whole c.apply.ensures)
+    let d = c.apply.new.self in
+    let whole = c.requires.ready.whole in
+    shard_answers old d old.log n c.apply.result c.requires.ready
+    (offer_grows _ old.detector n c.apply.result d whole c.apply.ensures)
+    (offer_counts _ old.detector n c.apply.result d whole c.apply.ensures)
+    (inl (refl, offer_keeps _ old.detector n c.apply.result d whole c.apply.ensures (asks_none_of (content_of old.detector) n.event c.in_default.not-Read c.in_default.not-Write)))
+    c.apply.ensures.lawful
+    (λ trace k. offers_own _ (own_words old) trace old.detector k n c.apply.result d
+    (own_other (own_words old) (content_of old.detector) n.event c.in_default.not-Read c.in_default.not-Write) whole c.apply.ensures)
 
 pub returns-in_default-clause-passes : goal.returns-in_default-clause-passes
 returns-in_default-clause-passes c = λ trace k some by accepts. absurd (some (no_access c.args.named.now.event c.in_default.not-Read c.in_default.not-Write))
