@@ -14,7 +14,7 @@ use hg_model::event::{Access, Event, Hold, Named};
 use hg_model::verdict::Refusal;
 use hg_store::store::Store;
 
-/// An event: a read, a write and an event on a lock in their parts, so that none of them stands in memory before it is accepted.
+/// An event: a read, a write and an event on a lock in the parts that their lines were read in.
 #[derive(Clone, Copy, Debug, PartialEq, Eq)]
 pub(crate) enum EventParts {
     /// A read, or a write.

@@ -126,8 +126,8 @@ impl<D: Disk> Store<D> {
         answer
     }
 
-    /// Offers a read or a write under the number that its source gave it. It does what `offer` does with that event, but makes
-    /// no event in memory before it is accepted.
+    /// Offers a read or a write under the number that its source gave it. It does what `offer` does with that event, and
+    /// spares the caller to make one.
     #[inline(always)]
     pub fn touch(
         &mut self,
@@ -156,8 +156,8 @@ impl<D: Disk> Store<D> {
         answer
     }
 
-    /// Offers an event on a lock under the number that its source gave it. It does what `offer` does with that event, but makes
-    /// no event in memory before it is accepted.
+    /// Offers an event on a lock under the number that its source gave it. It does what `offer` does with that event, and
+    /// spares the caller to make one.
     #[inline(always)]
     pub fn hold(&mut self, source: u16, number: u64, hold: Hold) -> Result<Answer, Refusal>
         ensures done { OfferDone ⟦<D as Disk>⟧ self.old self.new (hold_named source number hold) result }
