@@ -6,7 +6,6 @@ ghost use Rattle.hg_pages.specs.Reading.{number_at, text_of};
 ghost use Rattle.hg_pages.specs.Slots.{CellFits, IsThreadSet, cell_text};
 
 use hg_cells::Cell;
-use hg_model::limits::GREATEST_THREAD;
 use hg_sets::SetTable;
 
 /// How many bytes a cell has.
@@ -201,27 +200,27 @@ pub(crate) fn are_of_shared(numbers: (u32, u32, u32)) -> bool
     numbers.0 >= READ
 }
 
-// Whether this set can be the set of threads of a shared word.
+// Whether the table has this set, and it can be the threads of a shared word. There is no branch in it: the table is asked for
+// its last set where it does not have this one.
 #[inline(always)]
 fn is_thread_set(sets: &SetTable, id: u32) -> bool
     ensures { IsTrue result ↔ IsThreadSet sets.now.sets id }
 {
-    if id >= sets.len() {
-        return false;
-    }
-    let (size, greatest) = sets.size_and_greatest(id);
-    (size >= 2) & (greatest <= GREATEST_THREAD)
+    let last = sets.len() - 1;
+    let is_known = id <= last;
+    let asked = if is_known { id } else { last };
+    let is_of_threads = sets.is_of_threads(asked);
+    is_known & is_of_threads
 }
 
-/// Whether the threads of a cell that is spelled so can be, if it is shared. The table is asked for each cell, for the empty set
-/// where it is not shared: which kind of cell comes next can't be foreseen.
+/// Whether the threads of a cell that is spelled so can be, if it is shared. The table is asked for each cell: which kind of cell
+/// comes next can't be foreseen.
 #[inline(always)]
 pub(crate) fn has_threads(bytes: &[u8], sets: &SetTable) -> bool
     requires { length bytes.now ≡ CELL_LEN }
     ensures { IsTrue result ↔ HasThreads sets.now.sets bytes.now }
 {
     let is_shared = number(bytes, 0) >= READ;
-    let threads = if is_shared { number(bytes, 4) } else { 0 };
-    let is_set = is_thread_set(sets, threads);
+    let is_set = is_thread_set(sets, number(bytes, 4));
     !is_shared | is_set
 }

@@ -4,4 +4,4 @@ pub mod Listed
 pub mod Remembering
 pub mod Restored
 pub mod Reserved
-pub mod Greatest
+pub mod Threads

@@ -1,6 +1,7 @@
 -- Interned sets: each set of numbers stands once in a table, and its number is its place.
 use Rattle.std.specs.Prelude.{◌≡◌, ◌≢◌, ◌⊎◌, ℕ, ◌<◌, ◌≤◌, List, [], ◌∷◌, ◌++◌, length, slice_index_or, All, AllPairs, Contains, MatchOption, Option, Result, Ok, Err}
 use Rattle.std.specs.List.Sorted.{IsStrictlyIncreasing}
+use Rattle.hg_model.specs.declared.limits.TheConstants.{GREATEST_THREAD}
 use Rattle.hg_sets.specs.declared.fault.SetFault.{SetFault}
 use Rattle.hg_sets.specs.declared.fault.SetFault.TheVariants.{Full, OutOfMemory}
 
@@ -62,8 +63,7 @@ pub record KeepsNumbers (old new : Table) : Type 0 where
   pub limit : new.limit ≡ old.limit
   pub sets : (id : ℕ) → id < length old.sets → StandsAt new.sets (set_at old.sets id) id
 
--- the greatest of these numbers, or 0 where there is none
-pub record IsGreatest (members : List ℕ) (greatest : ℕ) : Type 0 where
-  pub none_above : All (λ member. member ≤ greatest) members
-  pub is_member : 0 < length members → Contains members greatest
-  pub zero_of_none : length members ≡ 0 → greatest ≡ 0
+-- These can be the threads of a shared word: two at least, each the number of a thread.
+pub record AreThreads (members : List ℕ) : Type 0 where
+  pub several : 2 ≤ length members
+  pub threads : All (λ t. t ≤ GREATEST_THREAD) members

@@ -1,6 +1,7 @@
 -- Lists that stand one after another in memory, each found by a hash of its elements.
-use Rattle.std.specs.Prelude.{◌≡◌, ◌≢◌, ◌⊎◌, ℕ, zero, suc, ◌+◌, ◌-◌, ◌*◌, ◌/◌, ◌%◌, ◌^◌, ◌<◌, ◌≤◌, min, List, [], ◌∷◌, length, slice_index, take, drop, map, All, nat_lt, if◌then◌else◌, Contains, Option, MatchOption}
+use Rattle.std.specs.Prelude.{◌≡◌, ◌≢◌, ◌⊎◌, ℕ, zero, suc, ◌+◌, ◌-◌, ◌*◌, ◌/◌, ◌%◌, ◌^◌, ◌<◌, ◌≤◌, min, List, [], ◌∷◌, length, slice_index, take, drop, map, All, Bool, false, nat_le, nat_lt, if◌then◌else◌, Contains, Option, MatchOption}
 use Rattle.std.specs.List.{count_by}
+use Rattle.hg_model.specs.declared.limits.TheConstants.{GREATEST_THREAD}
 use Rattle.hg_sets.specs.declared.lists.Span.{Span}
 use Rattle.hg_sets.specs.declared.lists.TheConstants.{MOST_ELEMENTS, SPREAD}
 use Rattle.hg_sets.specs.Interning.{StandsAt, set_at}
@@ -13,13 +14,13 @@ list_at elements span = take span.len (drop span.start elements)
 abbrev pub lists_of : List ℕ → List Span → List (List ℕ)
 lists_of elements spans = map (list_at elements) spans
 
--- the last element of a list, or 0 where there is none
-abbrev pub last_of : List ℕ → ℕ
-last_of xs = slice_index xs (length xs - 1)
+-- whether a list has two elements at least, and its last one can be the number of a thread
+abbrev pub is_of_threads : List ℕ → Bool
+is_of_threads xs = if nat_lt (length xs) 2 then false else nat_le (slice_index xs (length xs - 1)) GREATEST_THREAD
 
--- a span has the last element of its list
-abbrev pub HasLast : List ℕ → Span → Type 0
-HasLast elements span = span.last ≡ last_of (list_at elements span)
+-- a span tells that of its list
+abbrev pub HasMark : List ℕ → Span → Type 0
+HasMark elements span = span.of_threads ≡ is_of_threads (list_at elements span)
 
 -- the hash of a list behind what was hashed before
 abbrev pub hash_behind : ℕ → List ℕ → ℕ
@@ -67,14 +68,14 @@ IsNumberOf lists list found = MatchOption found (¬ Contains lists list) (Stands
 abbrev pub AreFound : List (List ℕ) → List ℕ → ℕ → Type 0
 AreFound lists slots count = (id : ℕ) → id < count → IsFoundBy slots (hash_of (set_at lists id)) (id + 1)
 
--- Each list stands within the elements, its last one is in its span, and it is found among the slots. It takes one of these, and
+-- Each list stands within the elements, its span tells whether it can be threads, and it is found among the slots. It takes one of these, and
 -- at least half of them are free.
 pub record AreListed (elements : List ℕ) (spans : List Span) (slots : List ℕ) : Type 0 where
   pub few_elements : length elements < MOST_ELEMENTS
   pub few_lists : length spans ≤ length slots / 2
   pub few_slots : length slots ≤ 2 ^ 32
   pub within : All (λ span. span.start + span.len ≤ length elements) spans
-  pub lasts : All (HasLast elements) spans
+  pub marks : All (HasMark elements) spans
   pub numbers : HoldNumbers (length spans) slots
   pub one_slot_each : taken slots ≡ length spans
   pub found : AreFound (lists_of elements spans) slots (length spans)

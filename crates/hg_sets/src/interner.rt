@@ -25,7 +25,7 @@ impl Interner {
     ghost use Rattle.std.specs.List.Sorted.{IsStrictlyIncreasing};
     ghost use Rattle.hg_model.specs.Sets.{common, with_member};
     ghost use Rattle.hg_sets.specs.declared.fault.SetFault.TheVariants.{Full};
-    ghost use Rattle.hg_sets.specs.Interning.{set_at, AreSets, IsGreatest, MayBeAdded, first_table, table_with, with_set};
+    ghost use Rattle.hg_sets.specs.Interning.{set_at, AreSets, AreThreads, MayBeAdded, first_table, table_with, with_set};
     ghost use Rattle.hg_sets.specs.Listing.{IsNumberOf, hash_of};
     ghost use Rattle.hg_sets.specs.Soundness.{table_of, HasRoom, HasRoomFor, InternsBy, IsSound, LeavesRoom};
 
@@ -113,15 +113,14 @@ impl Interner {
         self.lists.get(id)
     }
 
-    /// How many members a set has, and the greatest of them, or 0 where it has none.
-    #[inline]
-    pub(crate) fn size_and_greatest(&self, id: u32) -> (u32, u16)
+    /// Whether the members of a set can be the threads of a shared word.
+    #[inline(always)]
+    pub(crate) fn is_of_threads(&self, id: u32) -> bool
         requires sound { IsSound self.now }
         requires known { id < length self.now.lists.all }
-        ensures size { result.0 ≡ length (set_at self.now.lists.all id) }
-        ensures greatest { IsGreatest (set_at self.now.lists.all id) result.1 }
+        ensures { IsTrue result ↔ AreThreads (set_at self.now.lists.all id) }
     {
-        self.lists.len_and_last(id)
+        self.lists.is_of_threads(id)
     }
 
     pub(crate) fn find(&self, members: &[u16]) -> Option<u32>

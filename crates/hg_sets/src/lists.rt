@@ -2,8 +2,9 @@
 
 ghost use Rattle.std.specs.Prelude.{◌≡◌, ◌⊎◌, ◌^◌, ◌<◌, ◌≤◌, ◌+◌, ◌/◌, ◌++◌, ◌∷◌, ℕ, [], All, length, IfOk, OnOk, OnErr, vec_capacity};
 ghost use Rattle.hg_sets.specs.Interning.{set_at};
-ghost use Rattle.hg_sets.specs.Listing.{AreListed, HasLast, HoldNumbers, IsFoundBy, IsNumberOf, StillHold, elements_left, first_slot, hash_of, last_of, list_at, lists_left, lists_of, next_slot, taken};
+ghost use Rattle.hg_sets.specs.Listing.{AreListed, HasMark, HoldNumbers, IsFoundBy, IsNumberOf, StillHold, elements_left, first_slot, hash_of, is_of_threads, list_at, lists_left, lists_of, next_slot, taken};
 
+use hg_model::limits::GREATEST_THREAD;
 use std::alloc::{AllocError, Global};
 use std::marker::Model;
 
@@ -19,12 +20,12 @@ pub(crate) const MOST_ELEMENTS: usize = 4_294_967_296;
 /// The most slots that may be made four times as many.
 const MOST_QUARTER: usize = 1_073_741_824;
 
-/// Where the elements of a list stand, and the last of them, or 0 where there is none.
+/// Where the elements of a list stand, and whether they can be the threads of a shared word.
 #[derive(Clone, Copy, Debug, PartialEq, Eq, Drop)]
 pub(crate) struct Span {
     pub(crate) start: u32,
     pub(crate) len: u32,
-    pub(crate) last: u16,
+    pub(crate) of_threads: bool,
 }
 
 /// Lists in the order in which they came, found by their elements.
@@ -90,15 +91,13 @@ impl Lists {
         elements_of(self.elements.as_slice(), self.spans[id as usize])
     }
 
-    /// How many elements a list has, and the last of them, or 0 where it has none. The elements are not read.
-    #[inline]
-    pub(crate) fn len_and_last(&self, id: u32) -> (u32, u16)
+    /// Whether a list has two elements at least, and its last one is at most `GREATEST_THREAD`. The elements are not read.
+    #[inline(always)]
+    pub(crate) fn is_of_threads(&self, id: u32) -> bool
         requires { id < length self.now.all }
-        ensures len { result.0 ≡ length (set_at self.now.all id) }
-        ensures last { result.1 ≡ last_of (set_at self.now.all id) }
+        ensures { result ≡ is_of_threads (set_at self.now.all id) }
     {
-        let span = self.spans[id as usize];
-        (span.len, span.last)
+        self.spans[id as usize].of_threads
     }
 
     /// The number of this list, if it is there. `hash` is its hash.
@@ -169,15 +168,15 @@ fn elements_of(elements: &[u16], span: Span) -> &[u16]
     &elements[span.start as usize..][..span.len as usize]
 }
 
-/// The last element of a list, or 0 where there is none.
+/// Whether a list has two elements at least, and its last one is at most `GREATEST_THREAD`.
 #[inline]
-fn last_of(list: &[u16]) -> u16
-    ensures { result ≡ last_of list.now }
+fn is_of_threads(list: &[u16]) -> bool
+    ensures { result ≡ is_of_threads list.now }
 {
-    if list.is_empty() {
-        return 0;
+    if list.len() < 2 {
+        return false;
     }
-    list[list.len() - 1]
+    list[list.len() - 1] <= GREATEST_THREAD
 }
 
 /// The hash of a list.
@@ -308,7 +307,7 @@ fn slots_for(
     requires few_elements { length elements.now < 2 ^ 32 }
     requires half_free { length spans.now ≤ count / 2 }
     requires within { All (λ span. span.start + span.len ≤ length elements.now) spans.now }
-    requires lasts { All (HasLast elements.now) spans.now }
+    requires marks { All (HasMark elements.now) spans.now }
     requires slots { count ≤ 2 ^ 32 }
     ensures len { IfOk result (λ slots. length slots.items ≡ count) }
     ensures listed { IfOk result (λ slots. AreListed elements.now spans.now slots.items) }
@@ -389,7 +388,7 @@ fn push_in(
     let span = Span {
         start: elements.len() as u32,
         len: list.len() as u32,
-        last: last_of(list),
+        of_threads: is_of_threads(list),
     };
     elements.extend_from_slice(list).unwrap();
     put_in(slots, hash, spans.len() as u32 + 1);

@@ -1,10 +1,10 @@
 //! The table of sets.
 
-ghost use Rattle.std.specs.Prelude.{◌≡◌, ◌<◌, ◌≤◌, length, Contains, MatchOption, IfOk, IsTrue};
+ghost use Rattle.std.specs.Prelude.{◌≡◌, ◌↔◌, ◌<◌, ◌≤◌, length, Contains, MatchOption, IfOk, IsTrue};
 ghost use Rattle.std.specs.List.Sorted.{IsStrictlyIncreasing};
 ghost use Rattle.hg_model.specs.Sets.{common, contains, with_member};
 ghost use Rattle.std.specs.List.{list_all};
-ghost use Rattle.hg_sets.specs.Interning.{AreSets, Interns, IsGreatest, KeepsNumbers, StandsAt, first_table, set_at};
+ghost use Rattle.hg_sets.specs.Interning.{AreSets, Interns, AreThreads, KeepsNumbers, StandsAt, first_table, set_at};
 
 use crate::fault::SetFault;
 use crate::interner::Interner;
@@ -96,17 +96,16 @@ impl SetTable {
         self.interner.members(id)
     }
 
-    /// How many members a set has, 0 to 65,536, and the greatest of them, or 0 where it has none. Its members are not read:
-    /// the table keeps both beside each other.
-    #[inline]
+    /// Whether the members of a set can be the threads of a shared word: two at least, and none above `GREATEST_THREAD`. They are
+    /// not read: the table keeps the answer.
+    #[inline(always)]
     #[must_use]
-    pub fn size_and_greatest(&self, id: u32) -> (u32, u16)
+    pub fn is_of_threads(&self, id: u32) -> bool
         requires { id < length self.now.sets }
-        ensures size { result.0 ≡ length (set_at self.now.sets id) }
-        ensures greatest { IsGreatest (set_at self.now.sets id) result.1 }
+        ensures threads { IsTrue result ↔ AreThreads (set_at self.now.sets id) }
         ensures sets { AreSets self.now }
     {
-        self.interner.size_and_greatest(id)
+        self.interner.is_of_threads(id)
     }
 
     /// The number of the set with these members, if it is there. Adds nothing.

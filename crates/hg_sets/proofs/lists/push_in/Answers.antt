@@ -19,7 +19,7 @@ returns-clause-listed c =
     rw (← next) (put.numbers (c.len-2.result + 1) (omega arith) (λ k d lt. omega (arith, h.numbers k d lt))) in
     rw (longer (goal.at.returns-clause-listed c).After-push_reserved, c.push_reserved.ensures.items)
     (more_listed elements c.args.list.now spans _ c.args.slots.now.items c.put_in.new.slots.items c.args.hash h
-    (omega (arith, c.requires.element_room)) (omega (arith, c.requires.list_room)) (omega arith) (omega arith) c.last_of.ensures
+    (omega (arith, c.requires.element_room)) (omega (arith, c.requires.list_room)) (omega arith) (omega arith) c.is_of_threads.ensures
     c.requires.hash put.len put.one_more numbers (rw (← next) put.found) put.kept)
 
 pub returns-clause-all : goal.returns-clause-all
