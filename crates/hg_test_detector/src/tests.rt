@@ -1,8 +1,11 @@
 mod cells;
+mod dice;
 mod graph;
+mod merging;
 mod model;
 mod own;
 mod plain;
 mod races;
 mod recency;
 mod sets;
+mod shards;
