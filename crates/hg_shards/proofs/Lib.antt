@@ -21,5 +21,6 @@ mod Noting
 mod Offering
 mod Together
 mod Filling
+mod Batches
 mod Summaries
 mod Rows

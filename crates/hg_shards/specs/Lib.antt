@@ -6,3 +6,5 @@ pub mod Logging
 pub mod Laws
 pub mod Sharding
 pub mod Filling
+pub mod Batches
+pub mod Readiness

@@ -6,3 +6,4 @@ pub mod laws;
 pub mod merge;
 pub mod set_log;
 pub mod shard;
+pub mod shards;

@@ -14,9 +14,12 @@ use hg_model::verdict::Refusal;
 use hg_sets::MOST_SETS;
 use hg_shards::full::first_full;
 use hg_shards::shard::Shard;
+use hg_shards::shards::{Cause, Shards, Stop};
 use std::alloc::{AllocError, Global};
+use std::marker::Sync;
 use std::process::Abort;
 use std::test::Fail;
+use std::thread::Threads;
 
 /// An offered event, and what has to be answered.
 #[derive(Clone, Copy)]
@@ -232,6 +235,136 @@ fn fill_tables(rt: &impl Abort, alloc: Global, seed: u64, count: u64) -> Result<
 fn shards_tell_which_event_a_full_table_refuses(rt: HostRuntime) -> Result<(), Fail> {
     for count in 1..=4 {
         fill_tables(&rt, rt.alloc(), count, count)?;
+    }
+    Ok(())
+}
+
+/// The events that were accepted.
+fn accepted_of(alloc: Global, events: &[Judged]) -> Result<Vec<Judged>, AllocError> {
+    let mut accepted = Vec::new(alloc);
+    for judged in events {
+        if judged.answer == Ok(Answer::Accepted) {
+            accepted.push(*judged)?;
+        }
+    }
+    Ok(accepted)
+}
+
+/// The events without their answers.
+fn named_of(alloc: Global, events: &[Judged]) -> Result<Vec<Named>, AllocError> {
+    let mut named = Vec::new(alloc);
+    for judged in events {
+        named.push(judged.named)?;
+    }
+    Ok(named)
+}
+
+/// Where a batch has to stop whose events are answered so.
+fn stop_of(batch: &[Judged]) -> Option<Stop> {
+    for place in 0..batch.len() {
+        let cause = match batch[place].answer {
+            Ok(Answer::Accepted) => continue,
+            Ok(Answer::Duplicate(last)) => Cause::Duplicate(last),
+            Err(refusal) => Cause::Refused(refusal),
+        };
+        return Some(Stop { place, cause });
+    }
+    None
+}
+
+/// Offers events to all shards by batches of at most 40. A batch ends behind an event that is not accepted.
+fn offer_by_batches<R: Threads + Sync + Abort>(
+    rt: &R,
+    shards: &mut Shards,
+    named: &[Named],
+    events: &[Judged],
+) {
+    assert!(rt; named.len() == events.len());
+    let mut done = 0;
+    for place in 0..named.len() {
+        if place < done {
+            continue;
+        }
+        let end = place.saturating_add(40).min(named.len());
+        let stop = shards.offer_all(rt, &named[place..end]);
+        assert!(rt; stop == stop_of(&events[place..end]), "{place}: {stop:?}");
+        done = match stop {
+            None => end,
+            Some(stop) => place.saturating_add(stop.place).saturating_add(1),
+        };
+    }
+}
+
+/// Judges a trace that looks random as a whole, and by batches that are offered to `count` shards side by side.
+fn judge_by_batches<R: Threads + Sync + Abort>(
+    rt: &R,
+    alloc: Global,
+    seed: u64,
+    count: u64,
+) -> Result<(), Refusal> {
+    let mut whole = new_whole(alloc, MOST_SETS)?;
+    let events = judge_whole(alloc, seed, &mut whole.it)?;
+    let named = named_of(alloc, &events)?;
+    let mut shards = Own {
+        it: Shards::new(alloc, count, MOST_SETS)?,
+    };
+    offer_by_batches(rt, &mut shards.it, &named, &events);
+    compare_merged(rt, alloc, &whole.it, shards.it.as_slice())?;
+    Ok(())
+}
+
+/// Offers accepted events as one batch to shards whose tables have room for `limit` sets, and to one such shard after another. The batch
+/// has to stop where the first of those stops.
+fn fill_side_by_side<R: Threads + Sync + Abort>(
+    rt: &R,
+    alloc: Global,
+    count: u64,
+    limit: u32,
+    events: &[Judged],
+) -> Result<(), Refusal>
+    requires least { 1 ≤ limit }
+    requires greatest { limit ≤ MOST_SETS }
+{
+    let parts = judge_parts(rt, alloc, count, limit, events)?;
+    let named = named_of(alloc, events)?;
+    let mut shards = Own {
+        it: Shards::new(alloc, count, limit)?,
+    };
+    let stopped = match shards.it.offer_all(rt, &named) {
+        None => None,
+        Some(stop) => {
+            assert!(rt; stop.cause == Cause::Refused(Refusal::FullSets));
+            Some((stop.place as u64).wrapping_add(1))
+        }
+    };
+    assert!(rt; stopped == parts.stopped, "{limit} sets: {stopped:?}");
+    let found = shards.it.first_full(alloc, limit)?;
+    assert!(rt; found == first_full(alloc, limit, &parts.shards)?);
+    Ok(())
+}
+
+/// Fills the tables of shards by a trace that looks random, in three sizes.
+fn fill_by_batches<R: Threads + Sync + Abort>(
+    rt: &R,
+    alloc: Global,
+    count: u64,
+) -> Result<(), Refusal> {
+    let mut whole = new_whole(alloc, MOST_SETS)?;
+    let judged = judge_whole(alloc, count, &mut whole.it)?;
+    let events = accepted_of(alloc, &judged)?;
+    for limit in [1, 5, MOST_SETS] {
+        fill_side_by_side(rt, alloc, count, limit, &events)?;
+    }
+    Ok(())
+}
+
+// A test, since no program offers batches to shards. What is expected is what one detector answers, and what shards come to that are
+// offered the events one by one.
+#[test]
+fn shards_take_batches_side_by_side(rt: HostRuntime) -> Result<(), Fail> {
+    for count in 1..=5 {
+        judge_by_batches(&rt, rt.alloc(), count, count)?;
+        fill_by_batches(&rt, rt.alloc(), count)?;
     }
     Ok(())
 }
