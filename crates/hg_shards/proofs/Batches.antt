@@ -29,6 +29,12 @@ accepted_by (Ok answers.Accepted) none = refl
 accepted_by (Ok (answers.Duplicate last)) none = absurd (none (causes.Duplicate last) refl)
 accepted_by (Err r) none = absurd (none (causes.Refused r) refl)
 
+-- a trace with one event more of a batch
+pub one_onto : (events : List Named) (i : ℕ) (n : Named) (trace : List Named) → slice_get events i ≡ Some n → reverse (take (i + 1) events) ++ trace ≡ n ∷ (reverse (take i events) ++ trace)
+one_onto events i n trace at =
+    ap (λ xs. reverse xs ++ trace) (take_more events i n (slice_get_within events i n at) ∙ ap (λ x. take i events ++ x ∷ []) (get_or_from_slice_get events i n n at))
+    ∙ ap (λ xs. xs ++ trace) (reverse-append (take i events) (n ∷ []))
+
 -- one event more was accepted
 pub takes_more : (old mid new : Shard) (events : List Named) (i : ℕ) (n : Named) → slice_get events i ≡ Some n → TakesAll old (take i events) mid → (answer : Result Answer Refusal) → answer ≡ Ok answers.Accepted → AnswersShard mid n answer new
     → TakesAll old (take (i + 1) events) new
@@ -44,11 +50,8 @@ takes_more old mid new events i n at all answer was given =
     before : List Named → List Named
     before trace = reverse (take i events) ++ trace
 
-    next : take (i + 1) events ≡ take i events ++ n ∷ []
-    next = take_more events i n (slice_get_within events i n at) ∙ ap (λ x. take i events ++ x ∷ []) (get_or_from_slice_get events i n n at)
-
     turned : (trace : List Named) → reverse (take (i + 1) events) ++ trace ≡ n ∷ before trace
-    turned trace = ap (λ xs. reverse xs ++ trace) next ∙ ap (λ xs. xs ++ trace) (reverse-append (take i events) (n ∷ []))
+    turned trace = one_onto events i n trace at
 
 -- ---- the first of several stops
 

@@ -22,5 +22,6 @@ mod Offering
 mod Together
 mod Filling
 mod Batches
+mod Judging
 mod Summaries
 mod Rows

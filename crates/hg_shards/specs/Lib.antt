@@ -7,4 +7,6 @@ pub mod Laws
 pub mod Sharding
 pub mod Filling
 pub mod Batches
+pub mod Stopping
+pub mod Judging
 pub mod Readiness

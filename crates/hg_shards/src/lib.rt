@@ -2,6 +2,7 @@
 #![tactic(auto)]
 
 pub mod full;
+pub mod judge;
 pub mod laws;
 pub mod merge;
 pub mod set_log;

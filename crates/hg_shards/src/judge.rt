@@ -1,0 +1,118 @@
+//! All parts of a trace as one detector, which judges batches of its events side by side.
+
+ghost use Rattle.std.specs.Prelude.{◌≡◌, ◌≤◌, IfErr, IfOk};
+ghost use Rattle.hg_model.specs.Change.{empty_content};
+ghost use Rattle.hg_sets.specs.Interning.{first_table};
+ghost use Rattle.hg_sets.specs.declared.table.TheConstants as sets;
+ghost use Rattle.hg_shards.specs.Stopping as spec;
+
+use crate::shards::{Cause, Shards, Stop};
+use hg_model::event::Named;
+use hg_model::verdict::Refusal;
+use hg_sets::MOST_SETS;
+use std::alloc::Global;
+use std::marker::Sync;
+use std::thread::Threads;
+
+/// How many events of a batch were accepted, where it stopped so.
+fn accepted_of(events: &[Named], stop: Option<Stop>) -> usize
+    ensures { result ≡ spec.accepted_of events.now stop }
+{
+    match stop {
+        None => events.len(),
+        Some(stop) => stop.place,
+    }
+}
+
+/// Where one detector stops in a batch, which had accepted `before` events in front of it. `first` is the first stop of the shards, and
+/// `found` the event at which they have more sets together than one table has room for.
+fn one_stop(before: u64, events: &[Named], first: Option<Stop>, found: Option<u64>) -> Option<Stop>
+    ensures { result ≡ spec.one_stop before events.now first found }
+{
+    let Some(event) = found else {
+        return first;
+    };
+    if before < event && event - before <= accepted_of(events, first) as u64 {
+        return Some(Stop {
+            place: (event - before - 1) as usize,
+            cause: Cause::Refused(Refusal::FullSets),
+        });
+    }
+    first
+}
+
+/// Whether a batch stopped since memory was refused.
+fn is_for_memory(stop: Option<Stop>) -> bool
+    ensures { result ≡ spec.is_for_memory stop }
+{
+    match stop {
+        None => false,
+        Some(stop) => match stop.cause {
+            Cause::Duplicate(_) => false,
+            Cause::Refused(refusal) => refusal == Refusal::OutOfMemory,
+        },
+    }
+}
+
+/// A detector of a whole trace, whose words are judged by parts. It is offered batches of events.
+#[derive(Drop)]
+pub struct Judge {
+    shards: Shards,
+    /// How many sets of threads and of locks the whole trace may have.
+    limit: u32,
+    /// How many events of the trace were accepted.
+    events: u64,
+    ghost least: { 1 ≤ limit },
+    ghost greatest: { limit ≤ sets.MOST_SETS },
+}
+
+impl Judge {
+    ghost use Rattle.hg_shards.specs.Judging.{IsAt, Judges};
+
+    /// The judge of an empty trace by `count` parts, with at most `most_sets` sets of threads and of locks: 1 to 262,144. The one
+    /// refusal is `OutOfMemory`.
+    pub fn new(alloc: Global, count: u64, most_sets: u32) -> Result<Self, Refusal>
+        requires some { 1 ≤ count }
+        requires least { 1 ≤ most_sets }
+        requires greatest { most_sets ≤ MOST_SETS }
+        ensures begins { IfOk result (IsAt empty_content (first_table most_sets)) }
+        ensures refusal { IfErr result (λ r. r ≡ Refusal.OutOfMemory) }
+    {
+        Ok(Judge {
+            shards: Shards::new(alloc, count, most_sets)?,
+            limit: most_sets,
+            events: 0,
+        })
+    }
+
+    /// Offers a batch of events to all parts side by side. The answer is where one detector with one table of sets stops, and why, or
+    /// None where it accepts all events. Behind a stop the judge can't go on, but has all reports of the events before it. The one
+    /// refusal is `OutOfMemory`: then nothing is told of the trace. Where no thread can be started, the caller's does the work.
+    pub fn offer_all<T: Threads + Sync>(
+        &mut self,
+        alloc: Global,
+        rt: &T,
+        events: &[Named],
+    ) -> Result<Option<Stop>, Refusal>
+        ensures judged { IfOk result (λ stop. Judges self.old events.now stop self.new) }
+        ensures refusal { IfErr result (λ r. r ≡ Refusal.OutOfMemory) }
+    {
+        let first = self.shards.offer_all(rt, events);
+        let Ok(found) = self.shards.first_full(alloc, self.limit) else {
+            return Err(Refusal::OutOfMemory);
+        };
+        let stop = one_stop(self.events, events, first, found);
+        if is_for_memory(stop) {
+            return Err(Refusal::OutOfMemory);
+        }
+        self.events = self.events.saturating_add(accepted_of(events, stop) as u64);
+        Ok(stop)
+    }
+
+    /// How many events of the trace were accepted.
+    pub fn events(&self) -> u64
+        ensures { result ≡ self.now.events }
+    {
+        self.events
+    }
+}
