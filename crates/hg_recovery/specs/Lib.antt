@@ -1,0 +1,4 @@
+pub mod Answers
+pub mod Detectors
+pub mod Filling
+pub mod Replaying
