@@ -78,6 +78,7 @@ impl Desk {
     }
 
     /// Answers a frame: one offer to the store for an Event, one commit for an Ask, and no other step.
+    #[inline(always)]
     pub fn answer<D: Disk, A: Opening, B: Column>(
         &mut self,
         alloc: Global,
@@ -172,6 +173,7 @@ fn welcome<D: Disk, A: Opening, B: Column>(core: &Core<D, A, B>, source: u16) ->
 }
 
 /// Between the Welcome and the end.
+#[inline(always)]
 fn talk<D: Disk, A: Opening, B: Column>(
     alloc: Global,
     core: &mut Core<D, A, B>,
@@ -202,6 +204,7 @@ fn talk<D: Disk, A: Opening, B: Column>(
     }
 }
 
+#[inline(always)]
 fn offer<D: Disk, A: Opening, B: Column>(
     core: &mut Core<D, A, B>,
     share: &mut Share<A, B>,

@@ -4,6 +4,7 @@
 pub mod desk;
 pub mod locked;
 pub mod moment;
+mod offering;
 mod sets;
 pub mod share;
 pub mod shared;

@@ -14,6 +14,7 @@ ghost use Rattle.hg_desk.specs.Told.{StepKept, ack, fitting, made_durable, nothi
 
 use crate::desk::refused;
 use crate::moment::Moment;
+use crate::offering::offer_to;
 use crate::sets::are_thread_sets;
 use crate::share::{Column, Opening, Share};
 use hg_detect::detector::Answer;
@@ -230,11 +231,12 @@ impl<D: Disk, A: Opening, B: Column> Core<D, A, B> {
     }
 
     /// The step `Offer`, with an answer that has no room for a page.
+    #[inline(always)]
     pub fn offer(&mut self, share: &mut Share<A, B>, named: &Named) -> Result<Answer, Refusal>
         ensures { StepKept ⟦<D as Disk>⟧ self.old self.new share.old share.new (step.Offer named.now) (told.Offered result) }
     {
         let _before = note_moment(&self.store, &mut self.moments);
-        let answer = self.store.offer(named);
+        let answer = offer_to(&mut self.store, named);
         let _more = self.store.events();
         note_accepted(
             &mut self.accepted,

@@ -30,6 +30,7 @@ pub enum Frame {
 }
 
 /// The number that eight bytes spell.
+#[inline(always)]
 pub(crate) fn number_of(bytes: &[u8]) -> u64
     requires { length bytes.now ≡ 8 }
     ensures { to_be_bytes w64 result ≡ bytes.now }
@@ -40,6 +41,7 @@ pub(crate) fn number_of(bytes: &[u8]) -> u64
 }
 
 /// A number and an event, which take all of the bytes: a record without its source.
+#[inline(always)]
 fn read_numbered(bytes: &[u8]) -> Option<(u64, Event)>
     ensures some { IfSome result (λ r. IsNumbered bytes.now r.0 r.1) }
     ensures none { IfNone result ((number : ℕ) (event : EventOf) → IsNumbered bytes.now number event → ⊥) }
@@ -61,6 +63,7 @@ fn read_numbered(bytes: &[u8]) -> Option<(u64, Event)>
 }
 
 /// The frame of a body.
+#[inline(always)]
 fn read_body(body: &[u8]) -> Option<Frame>
     ensures some { IfSome result (BodyIs body.now) }
     ensures none { IfNone result ((frame : FrameOf) → BodyIs body.now frame → ⊥) }
@@ -93,6 +96,7 @@ impl Message for Frame {
 
     const MOST_BYTES: usize = MOST_FRAME_BYTES;
 
+    #[inline(always)]
     fn read(_alloc: Global, bytes: &[u8]) -> Result<Option<Self>, AllocError> {
         Ok(read_body(bytes))
     }

@@ -18,6 +18,7 @@ pub(crate) enum Front<M> {
 }
 
 /// Tells what stands at the front of the bytes.
+#[inline(always)]
 pub(crate) fn read_front<M: Message + Drop>(
     alloc: Global,
     bytes: &[u8],

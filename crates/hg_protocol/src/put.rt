@@ -92,6 +92,7 @@ fn put_numbered(number: u64, event: &Event, out: &mut Vec<u8>) -> Result<(), All
 }
 
 /// Appends a frame of a kind and a number. An `Err` leaves `out` as it was.
+#[inline(always)]
 fn put_number(kind: u8, number: u64, out: &mut Vec<u8>) -> Result<(), AllocError>
     ensures ok { OnOk result (out.new.items ≡ out.old.items ++ framed (number_body kind number)) }
     ensures err { OnErr result (out.new.items ≡ out.old.items) }

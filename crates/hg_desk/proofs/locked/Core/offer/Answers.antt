@@ -9,13 +9,13 @@ use Rattle.hg_desk.proofs.locked.Core.offer.Goals as goal
 
 -- what holds once the offer was made
 module _ (g : given.Over) (c : goal.After-note_accepted g) where
-  steps : Steps g.D.Disk c.self.inside.store c.offer-answer.new.self (Offer c.args.named.now) (Offered c.offer-answer.result)
+  steps : Steps g.D.Disk c.self.inside.store c.offer_to-answer.new.store (Offer c.args.named.now) (Offered c.offer_to-answer.result)
   steps = record {
-    done = (c.offer-answer.result, refl, c.offer-answer.ensures.done);
-    content = λ honest. (c.offer-answer.result, refl, c.offer-answer.ensures.content honest);
-    device = c.offer-answer.ensures.device;
+    done = (c.offer_to-answer.result, refl, c.offer_to-answer.ensures.done);
+    content = λ honest. (c.offer_to-answer.result, refl, c.offer_to-answer.ensures.content honest);
+    device = c.offer_to-answer.ensures.device;
     backs = λ honest. c.note_moment-before.ensures.backs honest;
-    images = λ honest. c.offer-answer.ensures.images honest;
+    images = λ honest. c.offer_to-answer.ensures.images honest;
     count = λ honest. c.note_moment-before.ensures.count honest;
     all = λ works. c.note_moment-before.ensures.events works;
     more = λ works. search rules;
@@ -27,7 +27,7 @@ module _ (g : given.Over) (c : goal.After-note_accepted g) where
 
 pub invariant_of-self : goal.invariant_of-self
 invariant_of-self g c =
-    core_after g.D.Disk g.A.Opening.start g.A.Column.opening g.B.Column.opening c.self.inside.store c.offer-answer.new.self (Offer c.args.named.now) (Offered c.offer-answer.result) (steps g c)
+    core_after g.D.Disk g.A.Opening.start g.A.Column.opening g.B.Column.opening c.self.inside.store c.offer_to-answer.new.store (Offer c.args.named.now) (Offered c.offer_to-answer.result) (steps g c)
     c.self.inside.accepted.total c.self.inside.durable.total c.self.inside.accepted_count c.self.inside.durable_count c.self.inside.moments c.self.inside.acks c.self.invariant
     c.note_moment-before.result c.note_moment-before.ensures.durable
     c.note_accepted.new.book.total c.self.inside.durable.total c.note_accepted.new.count c.self.inside.durable_count c.note_moment-before.new.moments
@@ -37,8 +37,8 @@ invariant_of-self g c =
 pub returns : goal.returns
 returns g c =
     let old = c.self.inside.store in
-    let new = c.offer-answer.new.self in
-    let result = Offered c.offer-answer.result in
+    let new = c.offer_to-answer.new.store in
+    let result = Offered c.offer_to-answer.result in
     let one : c.note_accepted.new.share.accepted ≡ c.args.share.now.accepted + fitting c.self.inside.accepted.total (taken result) =
     ap (λ (t : Told). t.accepted) c.note_accepted.ensures.share ∙ ap (λ (n : ℕ). c.args.share.now.accepted + fitting c.self.inside.accepted.total n) c.accepted_by_offer.ensures in
     let two : c.note_accepted.new.share.durable ≡ c.args.share.now.durable + fitting c.self.inside.durable.total 0 =
