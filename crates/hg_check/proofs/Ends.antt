@@ -13,7 +13,7 @@ use Rattle.hg_streams.specs.declared.call.WriteCall.{WriteCall}
 use Rattle.hg_streams.specs.Calls.{given}
 use Rattle.hg_wire.specs.declared.reader.Reading.{Reading}
 use Rattle.hg_wire.specs.Streams.{ended_readings, readings}
-use Rattle.hg_reading.specs.Taking.{AreDue, ReadBroke, WasRead}
+use Rattle.hg_reading.specs.Taking.{AlwaysSettled, AreDue, ReadBroke, WasRead}
 use Rattle.hg_reading.proofs.Inputs.{begins_with}
 use Rattle.hg_reading.specs.declared.ending.Ending.{Ending}
 use Rattle.hg_reading.specs.declared.ending.Ending.TheVariants.{Ended}
@@ -73,7 +73,7 @@ ends_by d e reads lines (Some end) fresh h due =
     subst (λ xs. LeadsTo xs (first_table 262144) empty_content (content_of e) end) (sym rest.1) (ended_to d e lines rest.0 end fresh h)))
     due
 
-pub reads_to : (first now : List ReadCall) (d e : Detector PagedWords) (o p : List WriteCall) (stop : Option Ending) → IsStart d → WasRead StepsTaken first now d o (Ok stop) e p
+pub reads_to : (first now : List ReadCall) (d e : Detector PagedWords) (o p : List WriteCall) (stop : Option Ending) → IsStart d → WasRead StepsTaken AlwaysSettled first now d o (Ok stop) e p
     → ReadsTo first now (content_of e) (ending_of stop)
 reads_to first now d e o p stop fresh w = record {
   later = w.later;
@@ -98,7 +98,7 @@ front_any d e lines (Ok None) later last end s few h = leads_grow later e.sets (
 front_any d e lines (Ok (Some x)) later last end s few h = s.front (λ is. absurd (cc)) later last end few h
 front_any d e lines (Err x) later last end s few h = s.front (λ is. absurd (cc)) later last end few h
 
-pub reports_read : (first now : List ReadCall) (d e : Detector PagedWords) (o p : List WriteCall) (r : Result (Option Ending) Refusal) → IsStart d → WasRead StepsTaken first now d o r e p
+pub reports_read : (first now : List ReadCall) (d e : Detector PagedWords) (o p : List WriteCall) (r : Result (Option Ending) Refusal) → IsStart d → WasRead StepsTaken AlwaysSettled first now d o r e p
     → HasReports first now (content_of e)
 reports_read first now d e o p r fresh w = record {
   later = w.later;
@@ -109,7 +109,7 @@ reports_read first now d e o p r fresh w = record {
       (subst (λ xs. LeadsFrom d xs last end) rest.1 (from_fresh d (readings input) last end fresh l));
 }
 
-pub reports_broke : (first now : List ReadCall) (d e : Detector PagedWords) (o p : List WriteCall) (x : Refusal) → IsStart d → ReadBroke StepsTaken first now d o x e p → HasReports first now (content_of e)
+pub reports_broke : (first now : List ReadCall) (d e : Detector PagedWords) (o p : List WriteCall) (x : Refusal) → IsStart d → ReadBroke StepsTaken AlwaysSettled first now d o x e p → HasReports first now (content_of e)
 reports_broke first now d e o p x fresh w = record {
   later = w.later;
   since = w.since;

@@ -1,7 +1,6 @@
 -- What explaining a word takes of one line, and what it prints.
 use Rattle.std.proofs.Common.{◌≡◌, ◌+◌, ◌≤◌, ℕ, suc, List, [], ◌∷◌, ◌++◌, Option, None, Some, Result, Ok, Err, IfErr, OnErr, OnOk, refl, sym, ap, ◌∙◌, subst, inl, arith}
 use Rattle.std.proofs.lemmas.List.{append-nil}
-use Rattle.std.specs.Bool.{⊤}
 use Rattle.hg_model.specs.declared.verdict.Refusal.{Refusal}
 use Rattle.hg_model.specs.declared.verdict.Refusal.TheVariants.{OutOfMemory}
 use Rattle.hg_model.specs.Contents.{Content}
@@ -12,7 +11,6 @@ use Rattle.hg_streams.specs.declared.call.WriteCall.{WriteCall}
 use Rattle.hg_streams.specs.Calls.{failed_writes}
 use Rattle.hg_streams.specs.Told.{told}
 use Rattle.hg_wire.specs.declared.reader.Reading.{Reading}
-use Rattle.hg_reading.specs.Taking.{as_stop}
 use Rattle.hg_reading.specs.declared.ending.Ending.{Ending}
 use Rattle.hg_streams.specs.Holding.{IsDue}
 use Rattle.hg_check.specs.Running.{Steps}
@@ -123,40 +121,46 @@ takes_line old new calls line (Ok None) ready p = takes_passed old new calls lin
 takes_line old new calls line (Ok (Some end)) ready p = takes_stop old new calls line end p.asked p.steps (p.stays end refl)
 takes_line old new calls line (Err y) ready p = takes_broken old new calls line y p.asked p.steps p.fault
 
--- The held text was written.
+-- The held text was written, or that was broken off.
 pub takes_printed : {T : Type 0} (old new : Explaining) (before now : List WriteCall) (r : Result T Refusal)
     → new.asked ≡ old.asked → new.detector ≡ old.detector → new.look ≡ old.look → new.more ≡ old.more
     → ((first : List WriteCall) (rest goal : List ℕ) → IsDue first before old.held.items rest goal → OnOk r (IsDue first now new.held.items rest goal))
     → ((first : List WriteCall) (rest goal : List ℕ) → IsDue first before old.held.items rest goal → OnErr r (TookFront first now goal))
     → IfErr r (λ x. HasWriteCause before now x)
     → failed_writes now ≡ told r + failed_writes before
-    → ExplainsLines old before [] (as_stop r) new now
-takes_printed old new before now (Ok done) asked detector look more printed front cause failures = record {
-  asked = asked;
-  steps = subst (λ (d : Detector PagedWords). Steps old.detector [] (Ok None) d) (sym detector) (steps_none old.detector);
-  ready = λ is h. record {
-    whole = subst IsWhole (sym detector) h.whole;
-    word = omega (arith, h.word, ap (λ (q : Asked). q.word) asked);
-    few = subst (λ (d : Detector PagedWords). new.more ≤ (content_of d).last 0) (sym detector) (omega (arith, h.few, more));
-    looks = look ∙ (h.looks ∙ (ap (λ (d : Detector PagedWords). look_of ((content_of d).words old.asked.word)) (sym detector) ∙ ap (λ (q : Asked). look_of ((content_of new.detector).words q.word)) (sym asked)));
-  };
-  text = [];
-  adds = adds_nothing old.asked.word old.asked.form (content_of old.detector) (content_of new.detector) old.more new.more (ap (λ (d : Detector PagedWords). content_of d) detector) more;
-  due = λ fine first goal h. subst (λ x. IsDue first now new.held.items [] x) (sym (append-nil goal)) (printed first [] goal h);
-  front = λ x is. absurd (cc);
-  cause = λ x is. absurd (cc);
-  failures = failures;
-}
-takes_printed old new before now (Err y) asked detector look more printed front cause failures = record {
-  asked = asked;
-  steps = subst (λ (d : Detector PagedWords). Steps old.detector [] (Err y) d) (sym detector) (steps_stay {T = ⊤} old.detector (Err y));
-  ready = λ is. absurd (cc);
-  text = [];
-  adds = adds_any old.asked.word old.asked.form (content_of old.detector) (content_of new.detector) old.more new.more [] y;
-  due = λ fine. absurd (fine y refl);
-  front = λ x is first goal due n later last end h counted.
-      let rest = life old.asked.word old.asked.form (content_of old.detector) old.more n ([] ++ later) in
-      front_more first now goal rest (goal ++ rest) refl (front first [] goal due);
-  cause = λ x is. let same : y ≡ x = cc in subst (λ z. HasWriteCause before now z) same cause;
-  failures = failures;
-}
+    → OnOk r (ExplainsLines old before [] (Ok None) new now) × IfErr r (λ x. ExplainsLines old before [] (Err x) new now)
+takes_printed old new before now (Ok done) asked detector look more printed front cause failures = (
+  record {
+    asked = asked;
+    steps = subst (λ (d : Detector PagedWords). Steps old.detector [] (Ok None) d) (sym detector) (steps_none old.detector);
+    ready = λ is h. record {
+      whole = subst IsWhole (sym detector) h.whole;
+      word = omega (arith, h.word, ap (λ (q : Asked). q.word) asked);
+      few = subst (λ (d : Detector PagedWords). new.more ≤ (content_of d).last 0) (sym detector) (omega (arith, h.few, more));
+      looks = look ∙ (h.looks ∙ (ap (λ (d : Detector PagedWords). look_of ((content_of d).words old.asked.word)) (sym detector) ∙ ap (λ (q : Asked). look_of ((content_of new.detector).words q.word)) (sym asked)));
+    };
+    text = [];
+    adds = adds_nothing old.asked.word old.asked.form (content_of old.detector) (content_of new.detector) old.more new.more (ap (λ (d : Detector PagedWords). content_of d) detector) more;
+    due = λ fine first goal h. subst (λ x. IsDue first now new.held.items [] x) (sym (append-nil goal)) (printed first [] goal h);
+    front = λ x is. absurd (cc);
+    cause = λ x is. absurd (cc);
+    failures = failures;
+  },
+  tt,
+)
+takes_printed old new before now (Err y) asked detector look more printed front cause failures = (
+  tt,
+  record {
+    asked = asked;
+    steps = subst (λ (d : Detector PagedWords). Steps old.detector [] (Err y) d) (sym detector) (steps_stay old.detector y);
+    ready = λ is. absurd (cc);
+    text = [];
+    adds = adds_any old.asked.word old.asked.form (content_of old.detector) (content_of new.detector) old.more new.more [] y;
+    due = λ fine. absurd (fine y refl);
+    front = λ x is first goal due n later last end h counted.
+        let rest = life old.asked.word old.asked.form (content_of old.detector) old.more n ([] ++ later) in
+        front_more first now goal rest (goal ++ rest) refl (front first [] goal due);
+    cause = λ x is. let same : y ≡ x = cc in subst (λ z. HasWriteCause before now z) same cause;
+    failures = failures;
+  },
+)

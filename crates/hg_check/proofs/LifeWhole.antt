@@ -10,7 +10,7 @@ use Rattle.hg_streams.specs.declared.call.WriteCall.{WriteCall}
 use Rattle.hg_streams.specs.Calls.{given}
 use Rattle.hg_wire.specs.declared.reader.Reading.{Reading}
 use Rattle.hg_wire.specs.Streams.{ended_readings, readings}
-use Rattle.hg_reading.specs.Taking.{ReadBroke, Reads, WasRead}
+use Rattle.hg_reading.specs.Taking.{AlwaysSettled, ReadBroke, Reads, WasRead}
 use Rattle.hg_reading.specs.Whole.{TakesText}
 use Rattle.hg_reading.proofs.Through.{read_through}
 use Rattle.hg_reading.specs.declared.ending.Ending.{Ending}
@@ -35,11 +35,11 @@ use Rattle.hg_check.specs.RaceLife.{TellsLifeFront}
 use Rattle.hg_check.specs.Telling.{HasRun, HasRunText}
 use Rattle.hg_check.proofs.Told.{life_none}
 
-steps_seen : (a b : Explaining) (at_a at_b : List WriteCall) (lines : List Reading) (r : Result (Option Ending) Refusal) → ExplainsLines a at_a lines r b at_b → StepsTaken a.detector at_a lines r b.detector at_b
-steps_seen a b at_a at_b lines r h = h.steps
+steps_seen : (a b : Explaining) (at_a at_b : List WriteCall) (lines : List Reading) (r : Result (Option Ending) Refusal) → ExplainsLines a at_a lines r b at_b → (r ≡ Ok None → AlwaysSettled b) → StepsTaken a.detector at_a lines r b.detector at_b
+steps_seen a b at_a at_b lines r h judged = h.steps
 
-seen : (first now : List ReadCall) (s t : Explaining) (o p : List WriteCall) (r : Result (Option Ending) Refusal) → WasRead ExplainsLines first now s o r t p → WasRead StepsTaken first now s.detector o r t.detector p
-seen = read_through ExplainsLines StepsTaken (λ s. s.detector) steps_seen
+seen : (first now : List ReadCall) (s t : Explaining) (o p : List WriteCall) (r : Result (Option Ending) Refusal) → WasRead ExplainsLines AlwaysSettled first now s o r t p → WasRead StepsTaken AlwaysSettled first now s.detector o r t.detector p
+seen = read_through ExplainsLines AlwaysSettled StepsTaken (λ s. s.detector) steps_seen
 
 no_error : (stop : Option Ending) (x : Refusal) → ◌≡◌ {A = Result (Option Ending) Refusal} (Ok stop) (Err x) → ⊥
 no_error stop x h = absurd (cc)
@@ -61,7 +61,7 @@ told_to s t o p lines rest None h =
 told_to s t o p lines rest (Some end) h = h.adds.ends end refl rest
 
 -- The run came to an ending.
-pub has_run : (first now : List ReadCall) (s t : Explaining) (o p : List WriteCall) (stop : Option Ending) → IsFresh s → WasRead ExplainsLines first now s o (Ok stop) t p
+pub has_run : (first now : List ReadCall) (s t : Explaining) (o p : List WriteCall) (stop : Option Ending) → IsFresh s → WasRead ExplainsLines AlwaysSettled first now s o (Ok stop) t p
     → HasRun s.asked.word s.asked.form first now o p s.held.items t.held.items (content_of t.detector) t.more (ending_of stop)
 has_run first now s t o p stop fresh w =
     let v = seen first now s t o p (Ok stop) w in
@@ -106,7 +106,7 @@ front_last s begun p n lines input last end fresh is counted f =
     (append_assoc (line_text (word_line s.asked.word)) told (line_text (last_line last end)))
     (subst (λ x. TookFront begun p (line_text (word_line s.asked.word) ++ x)) same f)
 
-front_read : (first now : List ReadCall) (s t : Explaining) (o p begun : List WriteCall) (x : Refusal) → IsFresh s → WasRead ExplainsLines first now s o (Err x) t p
+front_read : (first now : List ReadCall) (s t : Explaining) (o p begun : List WriteCall) (x : Refusal) → IsFresh s → WasRead ExplainsLines AlwaysSettled first now s o (Err x) t p
     → IsDue begun o s.held.items [] (line_text (word_line s.asked.word)) → WroteFrontOf s.asked.word s.asked.form first now begun p
 front_read first now s t o p begun x fresh w due = record {
   later = w.later;
@@ -119,7 +119,7 @@ front_read first now s t o p begun x fresh w due = record {
       (w.steps.front x refl begun (line_text (word_line s.asked.word)) due last.events rest.0 last end led counted);
 }
 
-front_broke : (first now : List ReadCall) (s t : Explaining) (o p begun : List WriteCall) (x : Refusal) → IsFresh s → ReadBroke ExplainsLines first now s o x t p
+front_broke : (first now : List ReadCall) (s t : Explaining) (o p begun : List WriteCall) (x : Refusal) → IsFresh s → ReadBroke ExplainsLines AlwaysSettled first now s o x t p
     → IsDue begun o s.held.items [] (line_text (word_line s.asked.word)) → WroteFrontOf s.asked.word s.asked.form first now begun p
 front_broke first now s t o p begun x fresh w due = record {
   later = w.later;
@@ -140,18 +140,18 @@ front_broke first now s t o p begun x fresh w due = record {
       (front_due begun p t.held.items [] (head ++ w.steps.text) (w.steps.due (no_error None) begun head due)));
 }
 
-pub broke : (first now : List ReadCall) (s t : Explaining) (o p begun : List WriteCall) (x : Refusal) → IsFresh s → Reads ExplainsLines first now s o (Err x) t p
+pub broke : (first now : List ReadCall) (s t : Explaining) (o p begun : List WriteCall) (x : Refusal) → IsFresh s → Reads ExplainsLines AlwaysSettled first now s o (Err x) t p
     → IsDue begun o s.held.items [] (line_text (word_line s.asked.word)) → WroteFrontOf s.asked.word s.asked.form first now begun p
 broke first now s t o p begun x fresh reads due =
     ⊎_elim (λ w. front_read first now s t o p begun x fresh w due) (λ w. front_broke first now s t o p begun x fresh w due) reads
 
-pub broke_cause : (first now : List ReadCall) (s t : Explaining) (o p : List WriteCall) (x : Refusal) → Reads ExplainsLines first now s o (Err x) t p → HasCause first now o p x
+pub broke_cause : (first now : List ReadCall) (s t : Explaining) (o p : List WriteCall) (x : Refusal) → Reads ExplainsLines AlwaysSettled first now s o (Err x) t p → HasCause first now o p x
 broke_cause first now s t o p x reads =
-    ⊎_elim (λ w. cause_of first now o p x (none_failed first now w.later w.since w.intact) (w.steps.cause x refl)) (λ w. cause_by_read ExplainsLines first now s t o p x w w.steps.failures) reads
+    ⊎_elim (λ w. cause_of first now o p x (none_failed first now w.later w.since w.intact) (w.steps.cause x refl)) (λ w. cause_by_read ExplainsLines AlwaysSettled first now s t o p x w w.steps.failures) reads
 
 -- ---- a text in memory
 
-pub has_run_text : (input : List ℕ) (s t : Explaining) (o p : List WriteCall) (stop : Option Ending) → IsFresh s → TakesText ExplainsLines input s o (Ok stop) t p
+pub has_run_text : (input : List ℕ) (s t : Explaining) (o p : List WriteCall) (stop : Option Ending) → IsFresh s → TakesText ExplainsLines AlwaysSettled input s o (Ok stop) t p
     → HasRunText s.asked.word s.asked.form input o p s.held.items t.held.items (content_of t.detector) t.more (ending_of stop)
 has_run_text input s t o p stop fresh w =
     let count : (content_of t.detector).events ≡ w.steps.adds.count = omega (arith, w.steps.adds.counted (no_error stop), no_events s fresh) in
@@ -164,7 +164,7 @@ has_run_text input s t o p stop fresh w =
       due = λ begun goal h. w.steps.due (no_error stop) begun goal h;
     }
 
-pub front_of_text : (input : List ℕ) (s t : Explaining) (o p begun : List WriteCall) (x : Refusal) → IsFresh s → TakesText ExplainsLines input s o (Err x) t p
+pub front_of_text : (input : List ℕ) (s t : Explaining) (o p begun : List WriteCall) (x : Refusal) → IsFresh s → TakesText ExplainsLines AlwaysSettled input s o (Err x) t p
     → IsDue begun o s.held.items [] (line_text (word_line s.asked.word)) → TellsLifeFront input s.asked begun p
 front_of_text input s t o p begun x fresh w due last end l =
     let led = subst (λ xs. LeadsFrom s.detector xs last end) w.joined (from_fresh s.detector (readings input) last end fresh.start l) in

@@ -1,6 +1,5 @@
 -- What a detector takes of one line, and what it prints.
 use Rattle.std.proofs.Common.{◌≡◌, ◌+◌, ℕ, List, [], ◌∷◌, ◌++◌, length, drop, Option, None, Result, Ok, Err, IfErr, OnErr, OnOk, refl, sym, ap, ◌∙◌, subst, inl, arith}
-use Rattle.std.specs.Bool.{⊤}
 use Rattle.hg_streams.specs.declared.listing.Listing.{Listing}
 use Rattle.hg_streams.specs.declared.listing.Listing.TheVariants.{Reports, Segments}
 use Rattle.hg_model.specs.declared.verdict.Refusal.{Refusal}
@@ -13,7 +12,6 @@ use Rattle.hg_streams.specs.declared.call.WriteCall.{WriteCall}
 use Rattle.hg_streams.specs.Calls.{failed_writes}
 use Rattle.hg_streams.specs.Told.{told, told_refusal}
 use Rattle.hg_wire.specs.declared.reader.Reading.{Reading}
-use Rattle.hg_reading.specs.Taking.{as_stop}
 use Rattle.hg_reading.specs.declared.ending.Ending.{Ending}
 use Rattle.hg_check.specs.declared.checking.Checking.{Checking}
 use Rattle.hg_streams.specs.Holding.{IsDue}
@@ -59,10 +57,9 @@ takes_line old new calls reading r steps memory listing printed held = record {
   failures = none_failed r (failed_writes calls) memory;
 }
 
--- what is printed changes no content
-pub steps_stay : {T : Type 0} (d : Detector PagedWords) (r : Result T Refusal) → Steps d [] (as_stop r) d
-steps_stay d (Ok done) = steps_none d
-steps_stay d (Err x) = record {
+-- printing that is broken off changes no content
+pub steps_stay : (d : Detector PagedWords) (x : Refusal) → Steps d [] (Err x) d
+steps_stay d x = record {
   leads = λ is. absurd (cc);
   back = λ is. absurd (cc);
   ends = λ end is. absurd (cc);
@@ -73,11 +70,7 @@ steps_stay d (Err x) = record {
   whole = λ h. h;
 }
 
-pub told_as : {T : Type 0} (r : Result T Refusal) (n : ℕ) (m : ℕ) → n ≡ told r + m → n ≡ told {T = Option Ending} (as_stop r) + m
-told_as (Ok done) n m h = h
-told_as (Err x) n m h = h
-
--- The new reports were printed.
+-- The new reports were printed, or that was broken off.
 pub takes_printed : {T : Type 0} (old new : Checking) (before now : List WriteCall) (r : Result T Refusal)
     → old.listing ≡ Reports → new.detector ≡ old.detector → new.listing ≡ old.listing → new.printed ≡ length (content_of old.detector).reports
     → ((first : List WriteCall) (rest goal : List ℕ) → IsDue first before old.held.items (reports_text (old.printed + 1) (drop old.printed (content_of old.detector).reports) ++ rest) goal
@@ -86,36 +79,42 @@ pub takes_printed : {T : Type 0} (old new : Checking) (before now : List WriteCa
     → OnErr r (TookFront first now goal))
     → IfErr r (λ x. HasWriteCause before now x)
     → failed_writes now ≡ told r + failed_writes before
-    → ChecksLines old before [] (as_stop r) new now
-takes_printed old new before now (Ok done) is_listing detector listing counted printed front cause failures = record {
-  steps = subst (λ (d : Detector PagedWords). Steps old.detector [] (Ok None) d) (sym detector) (steps_none old.detector);
-  listing = listing;
-  printed = λ fine first p. record {
-    before = content_of old.detector;
-    count = counted;
-    grow = subst (λ (d : Detector PagedWords). ReportsGrow (content_of old.detector) (content_of d)) (sym detector) (reports_stay (content_of old.detector));
-    due = subst (λ l. IsDue first now new.held.items [] (live_text l (content_of old.detector))) (sym is_listing ∙ sym listing)
-        (printed first [] (reports_text 1 (content_of old.detector).reports)
+    → OnOk r (ChecksLines old before [] (Ok None) new now) × IfErr r (λ x. ChecksLines old before [] (Err x) new now)
+takes_printed old new before now (Ok done) is_listing detector listing counted printed front cause failures = (
+  record {
+    steps = subst (λ (d : Detector PagedWords). Steps old.detector [] (Ok None) d) (sym detector) (steps_none old.detector);
+    listing = listing;
+    printed = λ fine first p. record {
+      before = content_of old.detector;
+      count = counted;
+      grow = subst (λ (d : Detector PagedWords). ReportsGrow (content_of old.detector) (content_of d)) (sym detector) (reports_stay (content_of old.detector));
+      due = subst (λ l. IsDue first now new.held.items [] (live_text l (content_of old.detector))) (sym is_listing ∙ sym listing)
+          (printed first [] (reports_text 1 (content_of old.detector).reports)
+          (new_reports_due first before old.held.items p.before (content_of old.detector) old.printed p.count p.grow
+          (subst (λ l. IsDue first before old.held.items [] (live_text l p.before)) is_listing p.due)));
+    };
+    front = λ x is. absurd (cc);
+    cause = λ x is. absurd (cc);
+    failures = failures;
+  },
+  tt,
+)
+takes_printed old new before now (Err y) is_listing detector listing counted printed front cause failures = (
+  tt,
+  record {
+    steps = subst (λ (d : Detector PagedWords). Steps old.detector [] (Err y) d) (sym detector) (steps_stay old.detector y);
+    listing = listing;
+    printed = λ fine. absurd (fine y refl);
+    front = λ x is first p.
+        subst (λ (d : Detector PagedWords). TookFront first now (live_text old.listing (content_of d))) (sym detector)
+        (subst (λ l. TookFront first now (live_text l (content_of old.detector))) (sym is_listing)
+        (front first [] (reports_text 1 (content_of old.detector).reports)
         (new_reports_due first before old.held.items p.before (content_of old.detector) old.printed p.count p.grow
-        (subst (λ l. IsDue first before old.held.items [] (live_text l p.before)) is_listing p.due)));
-  };
-  front = λ x is. absurd (cc);
-  cause = λ x is. absurd (cc);
-  failures = failures;
-}
-takes_printed old new before now (Err y) is_listing detector listing counted printed front cause failures = record {
-  steps = subst (λ (d : Detector PagedWords). Steps old.detector [] (Err y) d) (sym detector) (steps_stay {T = ⊤} old.detector (Err y));
-  listing = listing;
-  printed = λ fine. absurd (fine y refl);
-  front = λ x is first p.
-      subst (λ (d : Detector PagedWords). TookFront first now (live_text old.listing (content_of d))) (sym detector)
-      (subst (λ l. TookFront first now (live_text l (content_of old.detector))) (sym is_listing)
-      (front first [] (reports_text 1 (content_of old.detector).reports)
-      (new_reports_due first before old.held.items p.before (content_of old.detector) old.printed p.count p.grow
-      (subst (λ l. IsDue first before old.held.items [] (live_text l p.before)) is_listing p.due))));
-  cause = λ x is. let same : y ≡ x = cc in subst (λ z. HasWriteCause before now z) same cause;
-  failures = failures;
-}
+        (subst (λ l. IsDue first before old.held.items [] (live_text l p.before)) is_listing p.due))));
+    cause = λ x is. let same : y ≡ x = cc in subst (λ z. HasWriteCause before now z) same cause;
+    failures = failures;
+  },
+)
 
 -- Nothing was to be printed.
 pub takes_nothing : (old new : Checking) (calls : List WriteCall) → old.listing ≡ Segments → new.detector ≡ old.detector → new.listing ≡ old.listing → new.printed ≡ length (content_of old.detector).reports → new.held.items ≡ old.held.items

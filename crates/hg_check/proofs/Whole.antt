@@ -16,7 +16,7 @@ use Rattle.hg_streams.specs.declared.call.WriteCall.{WriteCall}
 use Rattle.hg_streams.specs.Calls.{NoneFailedSince, failed_reads, failed_writes, refused_reads}
 use Rattle.hg_streams.proofs.Inputs.{failed_reads_on, none_failed, refused_reads_on}
 use Rattle.hg_wire.specs.declared.reader.Reading.{Reading}
-use Rattle.hg_reading.specs.Taking.{ReadBroke, Reads, Taking, WasRead}
+use Rattle.hg_reading.specs.Taking.{AlwaysSettled, ReadBroke, Reads, Taking, WasRead}
 use Rattle.hg_reading.specs.declared.ending.Ending.{Ending}
 use Rattle.hg_check.specs.declared.checking.Checking.{Checking}
 use Rattle.hg_streams.specs.Holding.{IsDue}
@@ -35,14 +35,14 @@ use Rattle.hg_check.proofs.Growing.{live_text_grows}
 
 -- ---- a run as its detector sees it
 
-steps_seen : (a b : Checking) (at_a at_b : List WriteCall) (lines : List Reading) (r : Result (Option Ending) Refusal) → ChecksLines a at_a lines r b at_b → StepsTaken a.detector at_a lines r b.detector at_b
-steps_seen a b at_a at_b lines r h = h.steps
+steps_seen : (a b : Checking) (at_a at_b : List WriteCall) (lines : List Reading) (r : Result (Option Ending) Refusal) → ChecksLines a at_a lines r b at_b → (r ≡ Ok None → AlwaysSettled b) → StepsTaken a.detector at_a lines r b.detector at_b
+steps_seen a b at_a at_b lines r h judged = h.steps
 
-seen : (first now : List ReadCall) (s t : Checking) (o p : List WriteCall) (r : Result (Option Ending) Refusal) → WasRead ChecksLines first now s o r t p → WasRead StepsTaken first now s.detector o r t.detector p
-seen = read_through ChecksLines StepsTaken (λ s. s.detector) steps_seen
+seen : (first now : List ReadCall) (s t : Checking) (o p : List WriteCall) (r : Result (Option Ending) Refusal) → WasRead ChecksLines AlwaysSettled first now s o r t p → WasRead StepsTaken AlwaysSettled first now s.detector o r t.detector p
+seen = read_through ChecksLines AlwaysSettled StepsTaken (λ s. s.detector) steps_seen
 
-seen_broke : (first now : List ReadCall) (s t : Checking) (o p : List WriteCall) (x : Refusal) → ReadBroke ChecksLines first now s o x t p → ReadBroke StepsTaken first now s.detector o x t.detector p
-seen_broke = broke_through ChecksLines StepsTaken (λ s. s.detector) steps_seen
+seen_broke : (first now : List ReadCall) (s t : Checking) (o p : List WriteCall) (x : Refusal) → ReadBroke ChecksLines AlwaysSettled first now s o x t p → ReadBroke StepsTaken AlwaysSettled first now s.detector o x t.detector p
+seen_broke = broke_through ChecksLines AlwaysSettled StepsTaken (λ s. s.detector) steps_seen
 
 -- ---- what was printed
 
@@ -97,8 +97,8 @@ front_printed t first now p =
     let more = live_text_grows t.listing p.before (content_of t.detector) p.grow in
     front_more first now (live_text t.listing p.before) more.0 (live_text t.listing (content_of t.detector)) more.1 (front_due first now t.held.items [] (live_text t.listing p.before) p.due)
 
-pub cause_by_read : {S : Type 0} (takes : Taking S Ending) (first now : List ReadCall) (s t : S) (o p : List WriteCall) (x : Refusal) → ReadBroke takes first now s o x t p → failed_writes p ≡ 0 + failed_writes o → HasCause first now o p x
-cause_by_read takes first now s t o p x w written =
+pub cause_by_read : {S : Type 0} (takes : Taking S Ending) (settled : S → Type 0) (first now : List ReadCall) (s t : S) (o p : List WriteCall) (x : Refusal) → ReadBroke takes settled first now s o x t p → failed_writes p ≡ 0 + failed_writes o → HasCause first now o p x
+cause_by_read takes settled first now s t o p x w written =
     ⊎_elim
     (λ memory. inl (memory.0, (omega (arith, memory.1.0, ap failed_reads w.since, failed_reads_on w.later first), omega (arith, written))))
     (λ failed. inr (
@@ -113,7 +113,7 @@ cause_by_read takes first now s t o p x w written =
     ))
     w.cause
 
-pub broke : (listing : Listing) (first now : List ReadCall) (s t : Checking) (o p : List WriteCall) (x : Refusal) → IsFresh listing s → Reads ChecksLines first now s o (Err x) t p
+pub broke : (listing : Listing) (first now : List ReadCall) (s t : Checking) (o p : List WriteCall) (x : Refusal) → IsFresh listing s → Reads ChecksLines AlwaysSettled first now s o (Err x) t p
     → WroteFront (λ c end. live_text s.listing c) first now o p × HasCause first now o p x
 broke listing first now s t o p x fresh reads =
     ⊎_elim
@@ -124,7 +124,7 @@ broke listing first now s t o p x fresh reads =
     (λ w. (
       wrote_live s.listing first now o p (content_of t.detector) (reports_broke first now s.detector t.detector o p x fresh.start (seen_broke first now s t o p x w))
           (subst (λ l. TookFront o p (live_text l (content_of t.detector))) w.steps.listing (front_printed t o p (due_of s t o p w.lines listing fresh w.steps))),
-      cause_by_read ChecksLines first now s t o p x w w.steps.failures,
+      cause_by_read ChecksLines AlwaysSettled first now s t o p x w w.steps.failures,
     ))
     reads
 
@@ -132,7 +132,7 @@ broke listing first now s t o p x fresh reads =
 
 -- what was printed behind the last line, which was broken off
 pub broke_printing : (listing : Listing) (first now : List ReadCall) (s t u : Checking) (o p q : List WriteCall) (stop : Option Ending) (x : Refusal) → IsFresh listing s
-    → WasRead ChecksLines first now s o (Ok stop) t p → ChecksLines t p [] (Err x) u q → u.detector ≡ t.detector
+    → WasRead ChecksLines AlwaysSettled first now s o (Ok stop) t p → ChecksLines t p [] (Err x) u q → u.detector ≡ t.detector
     → WroteFront (λ c end. live_text s.listing c) first now o q × HasCause first now o q x
 broke_printing listing first now s t u o p q stop x fresh w h same = (
   wrote_live s.listing first now o q (content_of t.detector) (reports_read first now s.detector t.detector o p (Ok stop) fresh.start (seen first now s t o p (Ok stop) w))
@@ -143,13 +143,13 @@ broke_printing listing first now s t u o p q stop x fresh w h same = (
 
 -- all reports were printed or are held
 pub due_at_end : (listing : Listing) (first now : List ReadCall) (s t u : Checking) (o p q : List WriteCall) (stop : Option Ending) → IsFresh listing s
-    → WasRead ChecksLines first now s o (Ok stop) t p → ChecksLines t p [] (Ok None) u q → u.detector ≡ t.detector → u.printed ≡ length (content_of t.detector).reports
+    → WasRead ChecksLines AlwaysSettled first now s o (Ok stop) t p → ChecksLines t p [] (Ok None) u q → u.detector ≡ t.detector → u.printed ≡ length (content_of t.detector).reports
     → IsDue o q u.held.items [] (live_text s.listing (content_of u.detector))
 due_at_end listing first now s t u o p q stop fresh w h same count =
     subst (λ l. IsDue o q u.held.items [] (live_text l (content_of u.detector))) (h.listing ∙ w.steps.listing)
     (all_printed u o q (count ∙ ap (λ (d : Detector PagedWords). length (content_of d).reports) (sym same)) (h.printed (no_error None) o (w.steps.printed (no_error stop) o (printed_first listing s o fresh))))
 
-pub reads_to_end : (listing : Listing) (first now : List ReadCall) (s t u : Checking) (o p : List WriteCall) (stop : Option Ending) → IsFresh listing s → WasRead ChecksLines first now s o (Ok stop) t p → u.detector ≡ t.detector
+pub reads_to_end : (listing : Listing) (first now : List ReadCall) (s t u : Checking) (o p : List WriteCall) (stop : Option Ending) → IsFresh listing s → WasRead ChecksLines AlwaysSettled first now s o (Ok stop) t p → u.detector ≡ t.detector
     → ReadsTo first now (content_of u.detector) (ending_of stop)
 reads_to_end listing first now s t u o p stop fresh w same =
     subst (λ (d : Detector PagedWords). ReadsTo first now (content_of d) (ending_of stop)) (sym same) (reads_to first now s.detector t.detector o p stop fresh.start (seen first now s t o p (Ok stop) w))

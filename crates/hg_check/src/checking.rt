@@ -1,8 +1,7 @@
 //! A detector that takes the lines of a trace text, and prints its reports as they come.
 
-ghost use Rattle.std.specs.Prelude.{◌≡◌, [], length, IfErr, IfOk};
+ghost use Rattle.std.specs.Prelude.{◌≡◌, [], length, None, Ok, Err, IfErr, IfOk, OnOk};
 ghost use Rattle.hg_detect.specs.Memory.{content_of};
-ghost use Rattle.hg_reading.specs.Taking.{as_stop};
 
 use crate::checker::{apply, apply_access, apply_hold};
 use crate::printing::print_reports;
@@ -33,7 +32,7 @@ pub struct Checking {
 }
 
 impl Checking {
-    ghost use Rattle.hg_check.specs.Taking.{IsFresh};
+    ghost use Rattle.hg_check.specs.Taking.{ChecksLines, IsFresh};
 
     /// A detector that has accepted no event.
     pub fn new(alloc: Global, listing: Listing) -> Result<Checking, Refusal>
@@ -49,10 +48,32 @@ impl Checking {
             held: Vec::new(alloc),
         })
     }
+
+    /// Prints the reports that are new since the last time, if reports are printed as they come.
+    pub(crate) fn print<W: Write>(&mut self, output: &mut Output<W>) -> Result<(), Refusal>
+        ensures ok { OnOk result (ChecksLines self.old output.old.calls [] (Ok None) self.new output.new.calls) }
+        ensures err { IfErr result (λ r. ChecksLines self.old output.old.calls [] (Err r) self.new output.new.calls) }
+        ensures detector { self.new.detector ≡ self.old.detector }
+        ensures count { self.new.printed ≡ length (content_of self.old.detector).reports }
+    {
+        let from = self.printed;
+        self.printed = self.detector.kept();
+        match self.listing {
+            Listing::Reports => print_reports(
+                self.alloc,
+                &self.detector,
+                from,
+                &mut self.held,
+                output,
+            ),
+            Listing::Segments => Ok(()),
+        }
+    }
 }
 
 impl<W: Write> Sink<W> for Checking {
     ghost use Rattle.hg_check.specs.Taking.{ChecksLines, MayTake};
+    ghost use Rattle.hg_reading.specs.Taking.{AlwaysSettled};
     ghost use Rattle.hg_check.specs.TakingLaws.{takes_fewer, takes_none, takes_on, takes_room};
 
     type End = Ending;
@@ -60,6 +81,8 @@ impl<W: Write> Sink<W> for Checking {
     ghost may_take = { MayTake };
 
     ghost takes = { ChecksLines };
+
+    ghost settled = { AlwaysSettled };
 
     #[inline(always)]
     fn offer(
@@ -90,24 +113,10 @@ impl<W: Write> Sink<W> for Checking {
         apply_hold(&mut self.detector, line, hold)
     }
 
-    /// Prints the reports that are new since the last time, if reports are printed as they come.
-    fn print(&mut self, output: &mut Output<W>) -> Result<(), Refusal>
-        ensures takes { ChecksLines self.old output.old.calls [] (as_stop result) self.new output.new.calls }
-        ensures detector { self.new.detector ≡ self.old.detector }
-        ensures count { self.new.printed ≡ length (content_of self.old.detector).reports }
-    {
-        let from = self.printed;
-        self.printed = self.detector.kept();
-        match self.listing {
-            Listing::Reports => print_reports(
-                self.alloc,
-                &self.detector,
-                from,
-                &mut self.held,
-                output,
-            ),
-            Listing::Segments => Ok(()),
-        }
+    /// Prints what is new. Each line was judged where it was offered.
+    fn settle(&mut self, output: &mut Output<W>) -> Result<Option<Ending>, Refusal> {
+        self.print(output)?;
+        Ok(None)
     }
 
     ghost none = { takes_none };

@@ -64,11 +64,11 @@ module _ {D : Type 0} (g : disk.Ghosts D) where
       (from_start p (lines ++ rest.0) (content_at g q) end none (t.ends end refl honest rest.0))))
       due
 
-module _ {D S : Type 0} (g : disk.Ghosts D) (takes : Taking S Ending) (at : S → List WriteCall → Place D) (moments : S → List (Instant D))
+module _ {D S : Type 0} (g : disk.Ghosts D) (takes : Taking S Ending) (settled : S → Type 0) (at : S → List WriteCall → Place D) (moments : S → List (Instant D))
     (seen : (a b : S) (at_a at_b : List WriteCall) (lines : List Reading) (r : Result (Option Ending) Refusal) → takes a at_a lines r b at_b → FeedsLines g (at a at_a) (moments a) lines r (at b at_b) (moments b))
   where
     -- The feeding came to an end.
-    pub feeds : (first now : List ReadCall) (s t : S) (o p : List WriteCall) (stop : Option Ending) → (at s o).fed.number ≡ 0 → WasRead takes first now s o (Ok stop) t p
+    pub feeds : (first now : List ReadCall) (s t : S) (o p : List WriteCall) (stop : Option Ending) → (at s o).fed.number ≡ 0 → WasRead takes settled first now s o (Ok stop) t p
         → Feeds g first now (at s o).fed.source (table_at (at s o)) (content_at g (at s o)) (content_at g (at t p)) (ending_of stop)
     feeds first now s t o p stop none w =
         let taken = seen s t o p w.lines (Ok stop) w.steps in
@@ -90,11 +90,11 @@ module _ {D S : Type 0} (g : disk.Ghosts D) (takes : Taking S Ending) (at : S �
           leads = ends_by g takes (at s o) (at t p) (moments s) (moments t) w.later w.lines stop none taken w.due;
         }
 
-    pub goes : (first now : List ReadCall) (s t : S) (o p : List WriteCall) (stop : Option Ending) → IsReadyAt (at s o) → WasRead takes first now s o (Ok stop) t p → WentWell g (at s o) (at t p)
+    pub goes : (first now : List ReadCall) (s t : S) (o p : List WriteCall) (stop : Option Ending) → IsReadyAt (at s o) → WasRead takes settled first now s o (Ok stop) t p → WentWell g (at s o) (at t p)
     goes first now s t o p stop ready w = (seen s t o p w.lines (Ok stop) w.steps).goes (no_error stop) ready
 
     -- it was broken off
-    front_read : (first now : List ReadCall) (s t : S) (o p : List WriteCall) (x : Refusal) → IsReadyAt (at s o) → (at s o).fed.number ≡ 0 → WasRead takes first now s o (Err x) t p
+    front_read : (first now : List ReadCall) (s t : S) (o p : List WriteCall) (x : Refusal) → IsReadyAt (at s o) → (at s o).fed.number ≡ 0 → WasRead takes settled first now s o (Err x) t p
         → HasFront g first now (at s o).fed.source (table_at (at s o)) (content_at g (at s o)) (at s o) (at t p).output
     front_read first now s t o p x ready none w = record {
       later = w.later;
@@ -105,7 +105,7 @@ module _ {D S : Type 0} (g : disk.Ghosts D) (takes : Taking S Ending) (at : S �
           (subst (λ xs. LeadsOn g (at s o) xs last end) rest.1 (at_start g (at s o) (readings input) last end none l));
     }
 
-    front_broke : (first now : List ReadCall) (s t : S) (o p : List WriteCall) (x : Refusal) → IsReadyAt (at s o) → (at s o).fed.number ≡ 0 → ReadBroke takes first now s o x t p
+    front_broke : (first now : List ReadCall) (s t : S) (o p : List WriteCall) (x : Refusal) → IsReadyAt (at s o) → (at s o).fed.number ≡ 0 → ReadBroke takes settled first now s o x t p
         → HasFront g first now (at s o).fed.source (table_at (at s o)) (content_at g (at s o)) (at s o) (at t p).output
     front_broke first now s t o p x ready none w = record {
       later = w.later;
@@ -120,7 +120,7 @@ module _ {D S : Type 0} (g : disk.Ghosts D) (takes : Taking S Ending) (at : S �
           ((taken.goes (no_error None) ready).printed honest begun text events printed);
     }
 
-    pub front : (first now : List ReadCall) (s t : S) (o p : List WriteCall) (x : Refusal) → IsReadyAt (at s o) → (at s o).fed.number ≡ 0 → Reads takes first now s o (Err x) t p
+    pub front : (first now : List ReadCall) (s t : S) (o p : List WriteCall) (x : Refusal) → IsReadyAt (at s o) → (at s o).fed.number ≡ 0 → Reads takes settled first now s o (Err x) t p
         → HasFront g first now (at s o).fed.source (table_at (at s o)) (content_at g (at s o)) (at s o) (at t p).output
     front first now s t o p x ready none reads = ⊎_elim (λ w. front_read first now s t o p x ready none w) (λ w. front_broke first now s t o p x ready none w) reads
 
@@ -139,21 +139,21 @@ module _ {D S : Type 0} (g : disk.Ghosts D) (takes : Taking S Ending) (at : S �
           ((seen s t o p lines r steps).way ready honest rest.0 last end room (subst (λ xs. LeadsOn g here xs last end) rest.1 (at_start g here (readings input) last end none l))));
     }
 
-    way_read : (first now : List ReadCall) (s t : S) (o p : List WriteCall) (r : Result (Option Ending) Refusal) → IsReadyAt (at s o) → (at s o).fed.number ≡ 0 → WasRead takes first now s o r t p → IsTrue g.is_honest
+    way_read : (first now : List ReadCall) (s t : S) (o p : List WriteCall) (r : Result (Option Ending) Refusal) → IsReadyAt (at s o) → (at s o).fed.number ≡ 0 → WasRead takes settled first now s o r t p → IsTrue g.is_honest
         → LiesOnWayOfAny (at s o).fed.source (table_at (at s o)) (content_at g (at s o)) first now (content_at g (at t p))
     way_read first now s t o p r ready none w = way_of first now s t o p w.later w.lines r ready none w.since w.steps (λ input m. begins_with takes w.later w.lines r input w.due m)
 
-    way_broke : (first now : List ReadCall) (s t : S) (o p : List WriteCall) (x : Refusal) → IsReadyAt (at s o) → (at s o).fed.number ≡ 0 → ReadBroke takes first now s o x t p → IsTrue g.is_honest
+    way_broke : (first now : List ReadCall) (s t : S) (o p : List WriteCall) (x : Refusal) → IsReadyAt (at s o) → (at s o).fed.number ≡ 0 → ReadBroke takes settled first now s o x t p → IsTrue g.is_honest
         → LiesOnWayOfAny (at s o).fed.source (table_at (at s o)) (content_at g (at s o)) first now (content_at g (at t p))
     way_broke first now s t o p x ready none w =
         way_of first now s t o p w.later w.lines (Ok None) ready none w.since w.steps (λ input m. let rest = w.front m.more in (rest.0, ap readings m.joined ∙ rest.1))
 
-    pub way : (first now : List ReadCall) (s t : S) (o p : List WriteCall) (r : Result (Option Ending) Refusal) → IsReadyAt (at s o) → (at s o).fed.number ≡ 0 → Reads takes first now s o r t p → IsTrue g.is_honest
+    pub way : (first now : List ReadCall) (s t : S) (o p : List WriteCall) (r : Result (Option Ending) Refusal) → IsReadyAt (at s o) → (at s o).fed.number ≡ 0 → Reads takes settled first now s o r t p → IsTrue g.is_honest
         → LiesOnWayOfAny (at s o).fed.source (table_at (at s o)) (content_at g (at s o)) first now (content_at g (at t p))
     way first now s t o p (Ok stop) ready none w = way_read first now s t o p (Ok stop) ready none w
     way first now s t o p (Err x) ready none reads = ⊎_elim (λ w. way_read first now s t o p (Err x) ready none w) (λ w. way_broke first now s t o p x ready none w) reads
 
-    fails_read : (first now : List ReadCall) (s t : S) (o p : List WriteCall) (x : Refusal) → WasRead takes first now s o (Err x) t p
+    fails_read : (first now : List ReadCall) (s t : S) (o p : List WriteCall) (x : Refusal) → WasRead takes settled first now s o (Err x) t p
         → FeedFails g false (at s o).store.devices (at t p).store.devices first now (at s o).output (at t p).output x
     fails_read first now s t o p x w =
         let taken = seen s t o p w.lines (Err x) w.steps in
@@ -163,7 +163,7 @@ module _ {D S : Type 0} (g : disk.Ghosts D) (takes : Taking S Ending) (at : S �
           memory = inr (none_refused first now w.later w.since w.intact);
         }
 
-    fails_broke : (first now : List ReadCall) (s t : S) (o p : List WriteCall) (x : Refusal) → ReadBroke takes first now s o x t p
+    fails_broke : (first now : List ReadCall) (s t : S) (o p : List WriteCall) (x : Refusal) → ReadBroke takes settled first now s o x t p
         → FeedFails g false (at s o).store.devices (at t p).store.devices first now (at s o).output (at t p).output x
     fails_broke first now s t o p x w =
         let taken = seen s t o p w.lines (Ok None) w.steps in
@@ -183,11 +183,11 @@ module _ {D S : Type 0} (g : disk.Ghosts D) (takes : Taking S Ending) (at : S �
         })
         w.cause
 
-    pub fails : (first now : List ReadCall) (s t : S) (o p : List WriteCall) (x : Refusal) → Reads takes first now s o (Err x) t p
+    pub fails : (first now : List ReadCall) (s t : S) (o p : List WriteCall) (x : Refusal) → Reads takes settled first now s o (Err x) t p
         → FeedFails g false (at s o).store.devices (at t p).store.devices first now (at s o).output (at t p).output x
     fails first now s t o p x reads = ⊎_elim (λ w. fails_read first now s t o p x w) (λ w. fails_broke first now s t o p x w) reads
 
-    pub kept : (first now : List ReadCall) (s t : S) (o p : List WriteCall) (r : Result (Option Ending) Refusal) → Reads takes first now s o r t p
+    pub kept : (first now : List ReadCall) (s t : S) (o p : List WriteCall) (r : Result (Option Ending) Refusal) → Reads takes settled first now s o r t p
         → KeepsOn g (at s o).store (at s o).output (moments s) (at t p).store (at t p).output (moments t)
     kept first now s t o p (Ok stop) w = (seen s t o p w.lines (Ok stop) w.steps).kept
     kept first now s t o p (Err x) reads = ⊎_elim (λ w. (seen s t o p w.lines (Err x) w.steps).kept) (λ w. (seen s t o p w.lines (Ok None) w.steps).kept) reads

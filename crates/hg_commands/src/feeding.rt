@@ -39,6 +39,7 @@ use std::alloc::Global;
 use std::io::{Read, Write};
 
 impl<D: Disk, W: Write> Sink<W> for Feeding<D, W> {
+    ghost use Rattle.hg_reading.specs.Taking.{AlwaysSettled};
     ghost use Rattle.hg_commands.specs.Taking.{MayTake, TakesLines};
     ghost use Rattle.hg_commands.specs.TakingLaws.{takes_fewer, takes_none, takes_on, takes_room};
 
@@ -47,6 +48,8 @@ impl<D: Disk, W: Write> Sink<W> for Feeding<D, W> {
     ghost may_take = { λ s n. MayTake (place s.store s.fed []) n };
 
     ghost takes = { TakesLines ⟦<D as Disk>⟧ };
+
+    ghost settled = { AlwaysSettled };
 
     fn offer(
         &mut self,
@@ -80,9 +83,9 @@ impl<D: Disk, W: Write> Sink<W> for Feeding<D, W> {
         self.feed_event(line, EventParts::Hold(hold), output)
     }
 
-    /// Prints nothing: each line printed its own text.
-    fn print(&mut self, _output: &mut Output<W>) -> Result<(), Refusal> {
-        Ok(())
+    /// Does nothing: each line was judged where it was offered, and printed its own text.
+    fn settle(&mut self, _output: &mut Output<W>) -> Result<Option<Ending>, Refusal> {
+        Ok(None)
     }
 
     ghost none = { λ s calls. takes_none ⟦<D as Disk>⟧ (place s.store s.fed calls) s.moments };

@@ -19,9 +19,9 @@ module _ {S E : Type 0} (takes : Taking S E) where
   stops_somewhere p q s t at_s at_t bytes (Err x) never h = h
 
   -- a line ended the run, or was broken off
-  pub stops_in_text : (bytes : List ℕ) (p q : LinesRead) (s t : S) (at_s at_t : List WriteCall) (r : Result (Option E) Refusal) → p ≡ at_start → (r ≡ Ok None → ⊥) → Pushes takes p s at_s bytes r q t at_t
-      → TakesText takes bytes s at_s r t at_t
-  stops_in_text bytes p q s t at_s at_t r is never h =
+  pub stops_in_text : (settled : S → Type 0) (bytes : List ℕ) (p q : LinesRead) (s t : S) (at_s at_t : List WriteCall) (r : Result (Option E) Refusal) → p ≡ at_start → (r ≡ Ok None → ⊥) → Pushes takes p s at_s bytes r q t at_t
+      → TakesText takes settled bytes s at_s r t at_t
+  stops_in_text settled bytes p q s t at_s at_t r is never h =
       let w = stops_somewhere p q s t at_s at_t bytes r never h in
       let rest = w.front [] in
       record {
@@ -30,16 +30,19 @@ module _ {S E : Type 0} (takes : Taking S E) where
         joined = from_start bytes p is ∙ rest.1;
         whole = λ none. absurd (never none);
         steps = w.steps;
+        judged = λ none. absurd (never none);
       }
 
   -- each line was passed, and the last one too was offered
-  pub takes_whole : ((a b c : S) (at_a at_b at_c : List WriteCall) (first later : List Reading) (r : Result (Option E) Refusal) → takes a at_a first (Ok None) b at_b → takes b at_b later r c at_c → takes a at_a (first ++ later) r c at_c)
-      → (bytes : List ℕ) (p q : LinesRead) (s t u : S) (at_s at_t at_u : List WriteCall) (r : Result (Option E) Refusal) → p ≡ at_start → Passes takes p s at_s bytes q t at_t [] → takes t at_t (readings_from q []) r u at_u
-      → TakesText takes bytes s at_s r u at_u
-  takes_whole on bytes p q s t u at_s at_t at_u r is passes last = record {
+  pub takes_whole : (settled : S → Type 0)
+      → ((a b c : S) (at_a at_b at_c : List WriteCall) (first later : List Reading) (r : Result (Option E) Refusal) → takes a at_a first (Ok None) b at_b → takes b at_b later r c at_c → takes a at_a (first ++ later) r c at_c)
+      → (bytes : List ℕ) (p q : LinesRead) (s t u : S) (at_s at_t at_u : List WriteCall) (r : Result (Option E) Refusal) → p ≡ at_start → Passes takes p s at_s bytes q t at_t [] → takes t at_t (readings_from q []) r u at_u → (r ≡ Ok None → settled u)
+      → TakesText takes settled bytes s at_s r u at_u
+  takes_whole settled on bytes p q s t u at_s at_t at_u r is passes last done = record {
     lines = passes.lines ++ readings_from q [];
     rest = [];
     joined = from_start bytes p is ∙ (passes.readings [] ∙ sym (append-nil (passes.lines ++ readings_from q [])));
     whole = λ none. refl;
     steps = on s t u at_s at_t at_u passes.lines (readings_from q []) r passes.steps last;
+    judged = done;
   }

@@ -1,5 +1,5 @@
 -- What a sink takes of a trace text.
-use Rattle.std.specs.Prelude.{◌≡◌, ◌⊎◌, ℕ, ◌+◌, ◌^◌, ◌≤◌, List, [], ◌∷◌, ◌++◌, length, Option, None, Some, Result, Ok, Err}
+use Rattle.std.specs.Prelude.{◌≡◌, ◌⊎◌, ℕ, ◌+◌, ◌^◌, ◌≤◌, List, [], ◌∷◌, ◌++◌, length, Option, None, Some, Result, Ok, Err, ⊤}
 use Rattle.hg_model.specs.declared.event.Hold.{Hold}
 use Rattle.hg_model.specs.declared.verdict.Refusal.{Refusal}
 use Rattle.hg_model.specs.declared.verdict.Refusal.TheVariants.{DeviceFault, OutOfMemory}
@@ -14,15 +14,14 @@ use Rattle.hg_wire.specs.declared.line.AccessLine.{AccessLine}
 use Rattle.hg_wire.specs.declared.reader.Reading.{Reading}
 use Rattle.hg_wire.specs.Streams.{LinesRead, ended_from, ended_readings, readings, readings_from}
 
--- Printing ends no run, unless it fails.
-abbrev pub as_stop : {T E : Type 0} → Result T Refusal → Result (Option E) Refusal
-as_stop (Ok done) = Ok None
-as_stop (Err r) = Err r
-
 -- How a sink S takes lines: from its state and the calls of its output, by these lines, to an answer, a state and calls. A line may end
 -- the run with an E.
 abbrev pub Taking : Type 0 → Type 0 → Type 1
 Taking S E = S → List WriteCall → List Reading → Result (Option E) Refusal → S → List WriteCall → Type 0
+
+-- A sink that judges each line where it is offered is settled in each state.
+abbrev pub AlwaysSettled : {S : Type 0} → S → Type 0
+AlwaysSettled s = ⊤
 
 -- what is read of a line that is a read or a write
 abbrev pub access_at : ℕ → AccessLine → List Reading
@@ -66,44 +65,12 @@ module _ {S E : Type 0} (takes : Taking S E) where
   abbrev pub Offers : {W : Type 0} → LinesRead → S → Outgoing W → List ℕ → Result (Option E) Refusal → LinesRead → S → Outgoing W → Type 0
   Offers old before output piece r new now printed = Pushes old before output.calls piece r new now printed.calls
 
-  -- No read since `first` failed or met the end of the input, and each line that a line feed ended was passed.
-  pub record HasRead (first now : List ReadCall) (before : S) (at_first : List WriteCall) (p : LinesRead) (here : S) (at_last : List WriteCall) : Type 0 where
-    pub later : List ReadCall
-    pub since : now ≡ later ++ first
-    pub intact : NoneFailed later
-    pub underway : ends_met later ≡ 0
-    pub lines : List Reading
-    pub steps : takes before at_first lines (Ok None) here at_last
-    pub readings : (more : List ℕ) → readings (given later ++ more) ≡ lines ++ readings_from p more
-    pub ended : (more : List ℕ) → ended_readings (given later ++ more) ≡ lines ++ ended_from p more
-    pub none_left : HasNoneLeft p
-
-  -- Each of these reads was needed: none before the last met the end of the input, and each line that was whole by then was passed.
-  pub record EachIsNeeded (before : S) (at_first : List WriteCall) (reads : List ReadCall) : Type 0 where
-    pub last : ReadCall
-    pub earlier : List ReadCall
-    pub newest : reads ≡ last ∷ earlier
-    pub underway : ends_met earlier ≡ 0
-    pub now : S
-    pub calls : List WriteCall
-    pub passed : takes before at_first (ended_readings (given earlier)) (Ok None) now calls
-
   -- A read met the end of the input, and these are all its lines; or the answer is not `Ok None`, and the input begins with these lines,
   -- whatever follows what was read.
   abbrev pub AreDue : List ReadCall → List Reading → Result (Option E) Refusal → Type 0
   AreDue reads lines r =
       ((earlier : List ReadCall) × (reads ≡ Gave [] ∷ earlier) × (lines ≡ readings (given earlier)))
       ⊎ ((r ≡ Ok None → ⊥) × Begins (given reads) lines)
-
-  -- An input was read to its end, or up to the line that ended the run or was broken off, and no further; no read failed.
-  pub record WasRead (first now : List ReadCall) (before : S) (at_first : List WriteCall) (r : Result (Option E) Refusal) (here : S) (at_last : List WriteCall) : Type 0 where
-    pub later : List ReadCall
-    pub since : now ≡ later ++ first
-    pub intact : NoneFailed later
-    pub needed : EachIsNeeded before at_first later
-    pub lines : List Reading
-    pub due : AreDue later lines r
-    pub steps : takes before at_first lines r here at_last
 
   -- There was no memory before the first read, or one read was refused memory.
   abbrev pub LackedMemory : List ReadCall → Type 0
@@ -117,17 +84,56 @@ module _ {S E : Type 0} (takes : Taking S E) where
   abbrev pub ReadCause : List ReadCall → Refusal → Type 0
   ReadCause reads r = ((r ≡ OutOfMemory) × LackedMemory reads) ⊎ ((r ≡ DeviceFault) × LackedInput reads)
 
-  -- The reading itself was broken off, behind lines that were passed.
-  pub record ReadBroke (first now : List ReadCall) (before : S) (at_first : List WriteCall) (r : Refusal) (here : S) (at_last : List WriteCall) : Type 0 where
-    pub later : List ReadCall
-    pub since : now ≡ later ++ first
-    pub underway : ends_met later ≡ 0
-    pub lines : List Reading
-    pub front : Begins (given later) lines
-    pub steps : takes before at_first lines (Ok None) here at_last
-    pub cause : ReadCause later r
+  module _ (settled : S → Type 0) where
+    -- No read since `first` failed or met the end of the input, and each line that a line feed ended was passed. The sink is settled.
+    pub record HasRead (first now : List ReadCall) (before : S) (at_first : List WriteCall) (p : LinesRead) (here : S) (at_last : List WriteCall) : Type 0 where
+      pub later : List ReadCall
+      pub since : now ≡ later ++ first
+      pub intact : NoneFailed later
+      pub underway : ends_met later ≡ 0
+      pub lines : List Reading
+      pub steps : takes before at_first lines (Ok None) here at_last
+      pub readings : (more : List ℕ) → readings (given later ++ more) ≡ lines ++ readings_from p more
+      pub ended : (more : List ℕ) → ended_readings (given later ++ more) ≡ lines ++ ended_from p more
+      pub none_left : HasNoneLeft p
+      pub judged : settled here
 
-  -- What reading a whole input came to.
-  abbrev pub Reads : List ReadCall → List ReadCall → S → List WriteCall → Result (Option E) Refusal → S → List WriteCall → Type 0
-  Reads first now before at_first (Ok stop) here at_last = WasRead first now before at_first (Ok stop) here at_last
-  Reads first now before at_first (Err r) here at_last = WasRead first now before at_first (Err r) here at_last ⊎ ReadBroke first now before at_first r here at_last
+    -- Each of these reads was needed: none before the last met the end of the input, and each line that was whole by then was passed and
+    -- judged.
+    pub record EachIsNeeded (before : S) (at_first : List WriteCall) (reads : List ReadCall) : Type 0 where
+      pub last : ReadCall
+      pub earlier : List ReadCall
+      pub newest : reads ≡ last ∷ earlier
+      pub underway : ends_met earlier ≡ 0
+      pub now : S
+      pub calls : List WriteCall
+      pub passed : takes before at_first (ended_readings (given earlier)) (Ok None) now calls
+      pub judged : settled now
+
+    -- An input was read to its end, or until it was known that a line ended the run or was broken off, and no further; no read failed. Where
+    -- no line did, all are judged.
+    pub record WasRead (first now : List ReadCall) (before : S) (at_first : List WriteCall) (r : Result (Option E) Refusal) (here : S) (at_last : List WriteCall) : Type 0 where
+      pub later : List ReadCall
+      pub since : now ≡ later ++ first
+      pub intact : NoneFailed later
+      pub needed : EachIsNeeded before at_first later
+      pub lines : List Reading
+      pub due : AreDue later lines r
+      pub steps : takes before at_first lines r here at_last
+      pub judged : r ≡ Ok None → settled here
+
+    -- The reading itself was broken off, behind lines that were passed and judged.
+    pub record ReadBroke (first now : List ReadCall) (before : S) (at_first : List WriteCall) (r : Refusal) (here : S) (at_last : List WriteCall) : Type 0 where
+      pub later : List ReadCall
+      pub since : now ≡ later ++ first
+      pub underway : ends_met later ≡ 0
+      pub lines : List Reading
+      pub front : Begins (given later) lines
+      pub steps : takes before at_first lines (Ok None) here at_last
+      pub judged : settled here
+      pub cause : ReadCause later r
+
+    -- What reading a whole input came to.
+    abbrev pub Reads : List ReadCall → List ReadCall → S → List WriteCall → Result (Option E) Refusal → S → List WriteCall → Type 0
+    Reads first now before at_first (Ok stop) here at_last = WasRead first now before at_first (Ok stop) here at_last
+    Reads first now before at_first (Err r) here at_last = WasRead first now before at_first (Err r) here at_last ⊎ ReadBroke first now before at_first r here at_last

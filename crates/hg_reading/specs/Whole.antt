@@ -32,10 +32,12 @@ pub record CantKeep (old new : List ReadCall) (r : Refusal) : Type 0 where
   pub since : new ≡ later ++ old
   pub cause : ((r ≡ OutOfMemory) × (failed_reads new ≡ failed_reads old)) ⊎ ((r ≡ DeviceFault) × (NoneRefused old new × ReadFailed old new))
 
--- The lines of a whole text were offered: all of them, or a front of them, the last of which ended the run or was broken off.
-pub record TakesText {S E : Type 0} (takes : Taking S E) (bytes : List ℕ) (before : S) (at_first : List WriteCall) (r : Result (Option E) Refusal) (here : S) (at_last : List WriteCall) : Type 0 where
+-- The lines of a whole text were offered: all of them, or a front of them, one of which ended the run or was broken off. Where none did, all
+-- are judged.
+pub record TakesText {S E : Type 0} (takes : Taking S E) (settled : S → Type 0) (bytes : List ℕ) (before : S) (at_first : List WriteCall) (r : Result (Option E) Refusal) (here : S) (at_last : List WriteCall) : Type 0 where
   pub lines : List Reading
   pub rest : List Reading
   pub joined : readings bytes ≡ lines ++ rest
   pub whole : r ≡ Ok None → rest ≡ []
   pub steps : takes before at_first lines r here at_last
+  pub judged : r ≡ Ok None → settled here

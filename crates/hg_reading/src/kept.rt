@@ -60,8 +60,9 @@ pub fn keep<R: Read>(alloc: Global, input: &mut Input<R>) -> Result<Vec<u8>, Ref
     keep_pieces(alloc, buffer.as_mut_slice(), input)
 }
 
-/// Offers the lines of a whole text to the sink, which prints behind those that a line feed ends. The line that ends the run is the last
-/// one offered. `None` says that each was passed.
+/// Offers the lines of a whole text to the sink, which settles behind those that a line feed ends, and behind the last one where it lacks
+/// its line feed. Once the sink says that a line ended the run, nothing more is offered. `None` says that all lines are judged, and that
+/// each was passed.
 pub fn offer_text<W, S: Sink<W>>(
     reader: EventReader,
     text: &[u8],
@@ -70,7 +71,7 @@ pub fn offer_text<W, S: Sink<W>>(
 ) -> Result<Option<S::End>, Refusal>
     requires start { reader ≡ at_start }
     requires room { S.may_take sink.old (length text.now + 1) }
-    ensures { TakesText S.takes text.now sink.old output.old.calls result sink.new output.new.calls }
+    ensures { TakesText S.takes S.settled text.now sink.old output.old.calls result sink.new output.new.calls }
 {
     let mut reader = reader;
     if let Some(end) = take_piece(&mut Alone, &mut reader, sink, text, output)? {

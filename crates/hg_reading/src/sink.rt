@@ -5,7 +5,7 @@ ghost use Rattle.hg_model.specs.declared.verdict.Refusal.{Refusal as RefusalOf};
 ghost use Rattle.hg_streams.specs.declared.call.WriteCall.{WriteCall};
 ghost use Rattle.hg_wire.specs.Accesses.{event_of};
 ghost use Rattle.hg_wire.specs.declared.reader.Reading.{Reading as ReadingOf};
-ghost use Rattle.hg_reading.specs.Taking.{access_at, as_stop, hold_at};
+ghost use Rattle.hg_reading.specs.Taking.{access_at, hold_at};
 
 use hg_model::event::{Event, Hold};
 use hg_model::verdict::Refusal;
@@ -25,7 +25,8 @@ pub fn access_event(found: &AccessLine) -> Event
     }
 }
 
-/// Takes the events of a trace text, one line after another, and prints what comes of them.
+/// Takes the events of a trace text, one line after another, and prints what comes of them. Lines may be judged after they were offered,
+/// at the latest where the sink settles.
 pub trait Sink<W> {
     /// How a line may end the run.
     type End;
@@ -34,8 +35,11 @@ pub trait Sink<W> {
     ghost may_take: { Self → ℕ → Type 0 };
 
     /// From one state of the sink and its output to another these lines were offered, with this answer: `Ok None` where each was passed;
-    /// else the last of them ended the run, or a fault broke it off.
+    /// else a line ended the run, or a fault broke it off. Whether others may stand behind that line is the sink's affair.
     ghost takes: { Self → List WriteCall → List ReadingOf → Result (Option Self.End) RefusalOf → Self → List WriteCall → Type 0 };
+
+    /// All lines that were offered are judged.
+    ghost settled: { Self → Type 0 };
 
     /// Offers a line. `None` says that it was passed.
     fn offer(
@@ -74,9 +78,11 @@ pub trait Sink<W> {
         self.offer(&reading, output)
     }
 
-    /// Prints what is due before the next read.
-    fn print(&mut self, output: &mut Output<W>) -> Result<(), Refusal>
-        ensures takes { takes self.old output.old.calls [] (as_stop result) self.new output.new.calls };
+    /// Judges the lines that are not judged yet, and prints what is due before the next read. `None` says that none of them ended the run.
+    fn settle(&mut self, output: &mut Output<W>) -> Result<Option<Self::End>, Refusal>
+        requires room { may_take self.old 0 }
+        ensures takes { takes self.old output.old.calls [] result self.new output.new.calls }
+        ensures settled { result ≡ Ok None → settled self.new };
 
     /// Offering no lines changes nothing.
     ghost none: { (s : Self) (calls : List WriteCall) → takes s calls [] (Ok None) s calls };

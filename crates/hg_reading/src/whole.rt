@@ -41,7 +41,7 @@ impl Intake {
     }
 }
 
-/// Offers the lines of a piece. Where each was passed, the sink prints.
+/// Offers the lines of a piece. Where each was passed, the sink settles.
 #[inline(always)]
 pub(crate) fn take_piece<P: Pieces<W, S>, W, S: Sink<W>>(
     pieces: &mut P,
@@ -55,16 +55,16 @@ pub(crate) fn take_piece<P: Pieces<W, S>, W, S: Sink<W>>(
     requires room { S.may_take sink.old (length piece.now) }
     ensures pushes { Offers S.takes reader.old sink.old output.old piece.now result reader.new sink.new output.new }
     ensures none_left { result ≡ Ok None → HasNoneLeft reader.new }
+    ensures settled { result ≡ Ok None → S.settled sink.new }
     ensures may { P.may_push pieces.new }
 {
-    if let Some(end) = pieces.push(reader, sink, piece, output)? {
-        return Ok(Some(end));
+    match pieces.push(reader, sink, piece, output)? {
+        Some(end) => Ok(Some(end)),
+        None => sink.settle(output),
     }
-    sink.print(output)?;
-    Ok(None)
 }
 
-/// Offers the last line, which may lack its line feed.
+/// Offers the last line, if one lacks its line feed. Where it was passed, the sink settles.
 pub(crate) fn finish<W, S: Sink<W>>(
     reader: EventReader,
     sink: &mut S,
@@ -72,16 +72,21 @@ pub(crate) fn finish<W, S: Sink<W>>(
 ) -> Result<Option<S::End>, Refusal>
     requires lines { reader.lines + 1 < 2 ^ 64 }
     requires room { S.may_take sink.old 1 }
-    ensures { S.takes sink.old output.old.calls (readings_from reader []) result sink.new output.new.calls }
+    requires settled { S.settled sink.old }
+    ensures takes { S.takes sink.old output.old.calls (readings_from reader []) result sink.new output.new.calls }
+    ensures settled { result ≡ Ok None → S.settled sink.new }
 {
-    match reader.finish() {
-        Some(reading) => sink.offer(&reading, output),
-        None => Ok(None),
+    let Some(reading) = reader.finish() else {
+        return Ok(None);
+    };
+    if let Some(end) = sink.offer(&reading, output)? {
+        return Ok(Some(end));
     }
+    sink.settle(output)
 }
 
-/// Reads a trace text, and offers its lines to the sink, which prints after each piece. The line that ends the run is the last one offered,
-/// and nothing is read after it. `None` says that the input came to its end.
+/// Reads a trace text, and offers its lines to the sink, which settles after each piece and behind the last line. Once the sink says that a
+/// line ended the run, nothing more is offered or read. `None` says that the input came to its end, and that all its lines are judged.
 pub fn read<R: Read, W, S: Sink<W>>(
     alloc: Global,
     input: &mut Input<R>,
@@ -89,7 +94,9 @@ pub fn read<R: Read, W, S: Sink<W>>(
     output: &mut Output<W>,
 ) -> Result<Option<S::End>, Refusal>
     requires room { S.may_take sink.old (2 ^ 48) }
-    ensures { Reads S.takes input.old.calls input.new.calls sink.old output.old.calls result sink.new output.new.calls }
+    requires settled { S.settled sink.old }
+    ensures { Reads S.takes S.settled input.old.calls input.new.calls
+        sink.old output.old.calls result sink.new output.new.calls }
 {
     let intake = Intake::new(alloc, PIECE_BYTES)?;
     read_pieces(&mut Alone, intake, input, sink, output)
@@ -105,7 +112,9 @@ pub fn read_side_by_side<T: Threads + Sync, R: Read, W, S: Sink<W>>(
     output: &mut Output<W>,
 ) -> Result<Option<S::End>, Refusal>
     requires room { S.may_take sink.old (2 ^ 54) }
-    ensures { Reads S.takes input.old.calls input.new.calls sink.old output.old.calls result sink.new output.new.calls }
+    requires settled { S.settled sink.old }
+    ensures { Reads S.takes S.settled input.old.calls input.new.calls
+        sink.old output.old.calls result sink.new output.new.calls }
 {
     if jobs < 2 {
         return read(alloc, input, sink, output);
@@ -128,7 +137,9 @@ fn read_pieces<P: Pieces<W, S>, R: Read, W, S: Sink<W>>(
     requires start { intake.reader ≡ at_start }
     requires size { (0 < length intake.buffer.items) × (length intake.buffer.items ≤ 2 ^ 22) }
     requires room { S.may_take sink.old (length intake.buffer.items * 2 ^ 32) }
-    ensures { Reads S.takes input.old.calls input.new.calls sink.old output.old.calls result sink.new output.new.calls }
+    requires settled { S.settled sink.old }
+    ensures { Reads S.takes S.settled input.old.calls input.new.calls
+        sink.old output.old.calls result sink.new output.new.calls }
 {
     let Intake {
         mut reader,

@@ -67,6 +67,7 @@ impl Explaining {
 
 impl<W: Write> Sink<W> for Explaining {
     ghost use Rattle.hg_check.specs.LifeTaking.{ExplainsLines, MayTake};
+    ghost use Rattle.hg_reading.specs.Taking.{AlwaysSettled};
     ghost use Rattle.hg_check.specs.LifeTakingLaws.{takes_fewer, takes_none, takes_on, takes_room};
 
     type End = Ending;
@@ -74,6 +75,8 @@ impl<W: Write> Sink<W> for Explaining {
     ghost may_take = { MayTake };
 
     ghost takes = { ExplainsLines };
+
+    ghost settled = { AlwaysSettled };
 
     fn offer(
         &mut self,
@@ -93,9 +96,10 @@ impl<W: Write> Sink<W> for Explaining {
         self.pass_access(line, found)
     }
 
-    /// Writes the held text.
-    fn print(&mut self, output: &mut Output<W>) -> Result<(), Refusal> {
-        write_held(&mut self.held, output)
+    /// Writes the held text. Each line was judged where it was offered.
+    fn settle(&mut self, output: &mut Output<W>) -> Result<Option<Ending>, Refusal> {
+        write_held(&mut self.held, output)?;
+        Ok(None)
     }
 
     ghost none = { takes_none };

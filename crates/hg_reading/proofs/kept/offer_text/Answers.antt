@@ -9,14 +9,14 @@ use Rattle.hg_reading.proofs.kept.offer_text.Goals as goal
 pub returns-in_err-end : goal.returns-in_err-end
 returns-in_err-end g c =
     let same : c.from_residual.result ≡ Err c.in_err-end.field-0.0 = grind arith in
-    subst (λ x. TakesText g.S.Sink.takes c.args.text.now c.args.sink.now c.args.output.now.calls x c.take_piece.new.sink c.take_piece.new.output.calls) (sym same)
-    (stops_in_text g.S.Sink.takes c.args.text.now c.args.reader c.take_piece.new.reader c.args.sink.now c.take_piece.new.sink c.args.output.now.calls c.take_piece.new.output.calls (Err c.in_err-end.field-0.0)
+    subst (λ x. TakesText g.S.Sink.takes g.S.Sink.settled c.args.text.now c.args.sink.now c.args.output.now.calls x c.take_piece.new.sink c.take_piece.new.output.calls) (sym same)
+    (stops_in_text g.S.Sink.takes g.S.Sink.settled c.args.text.now c.args.reader c.take_piece.new.reader c.args.sink.now c.take_piece.new.sink c.args.output.now.calls c.take_piece.new.output.calls (Err c.in_err-end.field-0.0)
     c.requires.start (λ is. cc) c.in_err-end.ensures.pushes)
 
 pub returns-in-Some : goal.returns-in-Some
 returns-in-Some g c =
     let is : c.in_ok-end.field-0 ≡ Some c.in-Some.end = c.in-Some.is in
-    stops_in_text g.S.Sink.takes c.args.text.now c.args.reader c.take_piece.new.reader c.args.sink.now c.take_piece.new.sink c.args.output.now.calls c.take_piece.new.output.calls (Ok (Some c.in-Some.end))
+    stops_in_text g.S.Sink.takes g.S.Sink.settled c.args.text.now c.args.reader c.take_piece.new.reader c.args.sink.now c.take_piece.new.sink c.args.output.now.calls c.take_piece.new.output.calls (Ok (Some c.in-Some.end))
     c.requires.start (λ is. cc)
     (subst (λ x. Pushes g.S.Sink.takes c.args.reader c.args.sink.now c.args.output.now.calls c.args.text.now (Ok x) c.take_piece.new.reader c.take_piece.new.sink c.take_piece.new.output.calls) is c.in_ok-end.ensures.pushes)
 
@@ -33,5 +33,5 @@ returns g c =
     let none : c.in_ok-end.field-0 ≡ None = grind arith in
     let passes = pushes_pass g.S.Sink.takes c.args.reader c.args.sink.now c.args.output.now.calls c.args.text.now (Ok c.in_ok-end.field-0) c.take_piece.new.reader c.take_piece.new.sink c.take_piece.new.output.calls
     (ap Ok none) c.in_ok-end.ensures.pushes in
-    takes_whole g.S.Sink.takes g.met.S.Sink.on c.args.text.now c.args.reader c.take_piece.new.reader c.args.sink.now c.take_piece.new.sink c.finish.new.sink
-    c.args.output.now.calls c.take_piece.new.output.calls c.finish.new.output.calls c.finish.result c.requires.start passes c.finish.ensures
+    takes_whole g.S.Sink.takes g.S.Sink.settled g.met.S.Sink.on c.args.text.now c.args.reader c.take_piece.new.reader c.args.sink.now c.take_piece.new.sink c.finish.new.sink
+    c.args.output.now.calls c.take_piece.new.output.calls c.finish.new.output.calls c.finish.result c.requires.start passes c.finish.ensures.takes c.finish.ensures.settled

@@ -40,7 +40,7 @@ taken_some count buffer within some = omega (arith, length-take count buffer, wi
 pub loop-reads-init : goal.loop-reads-init
 loop-reads-init g c =
     record {
-      run = has_read_first g.S.Sink.takes g.met.S.Sink.on c.args.input.now.calls c.args.sink.now c.args.output.now.calls c.args.intake.reader c.requires.start (g.met.S.Sink.none c.args.sink.now c.args.output.now.calls);
+      run = has_read_first g.S.Sink.takes g.met.S.Sink.on g.S.Sink.settled c.args.input.now.calls c.args.sink.now c.args.output.now.calls c.args.intake.reader c.requires.start c.requires.settled (g.met.S.Sink.none c.args.sink.now c.args.output.now.calls);
       lines = omega (arith, ap (λ (p : LinesRead). p.lines) c.requires.start);
       room = c.requires.room;
       size = ap length c.as_mut_slice-bytes.ensures.value;
@@ -52,8 +52,8 @@ pub returns-in_err-count : goal.returns-in_err-count
 returns-in_err-count g c =
     let same : c.from_residual.result ≡ Err c.in_err-count.field-0.0 = grind arith in
     let failed = c.in_err-count.ensures.failed in
-    subst (λ x. Reads g.S.Sink.takes c.args.input.now.calls c.read.new.self.calls c.args.sink.now c.args.output.now.calls x c.loop-reads.sink c.loop-reads.output.calls) (sym same)
-    (inr (read_failed g.S.Sink.takes g.met.S.Sink.on c.args.input.now.calls c.loop-reads.input.calls c.read.new.self.calls c.args.sink.now c.args.output.now.calls c.loop-reads.reader c.loop-reads.sink
+    subst (λ x. Reads g.S.Sink.takes g.S.Sink.settled c.args.input.now.calls c.read.new.self.calls c.args.sink.now c.args.output.now.calls x c.loop-reads.sink c.loop-reads.output.calls) (sym same)
+    (inr (read_failed g.S.Sink.takes g.met.S.Sink.on g.S.Sink.settled c.args.input.now.calls c.loop-reads.input.calls c.read.new.self.calls c.args.sink.now c.args.output.now.calls c.loop-reads.reader c.loop-reads.sink
     c.loop-reads.output.calls failed.0 c.in_err-count.field-0.0 failed.1 c.in_err-count.ensures.fault c.in_err-count.ensures.memory c.in_err-count.ensures.cause c.loop-reads.invariant.run))
 
 pub loop-reads-preserved-in_default : goal.loop-reads-preserved-in_default
@@ -63,7 +63,7 @@ loop-reads-preserved-in_default g c =
     let swap : size + left ≡ left + size = omega arith in
     let same : length c.read.new.buffer ≡ length c.loop-reads.bytes = grind arith in
     record {
-      run = has_read_again g.S.Sink.takes g.met.S.Sink.on c.args.input.now.calls c.loop-reads.input.calls c.read.new.self.calls c.args.sink.now c.args.output.now.calls c.loop-reads.reader c.loop-reads.sink
+      run = has_read_again g.S.Sink.takes g.met.S.Sink.on g.S.Sink.settled c.args.input.now.calls c.loop-reads.input.calls c.read.new.self.calls c.args.sink.now c.args.output.now.calls c.loop-reads.reader c.loop-reads.sink
           c.loop-reads.output.calls (c.in_ok-count.ensures.calls ∙ ap (λ x. got_call x c.read.new.buffer ∷ c.loop-reads.input.calls) c.in_default.is) c.loop-reads.invariant.run;
       lines = lines_more size c.loop-reads.reads c.loop-reads.reader.lines c.loop-reads.reader.lines c.loop-reads.invariant.lines (omega arith);
       room = g.met.S.Sink.fewer c.loop-reads.sink left size
@@ -83,11 +83,11 @@ finish-requires-clause-room g c =
 pub returns-then-count-eq0 : goal.returns-then-count-eq0
 returns-then-count-eq0 g c =
     let zero : c.in-Some.count ≡ 0 = omega (arith, c.if-count-eq0.true) in
-    reads_all g.S.Sink.takes g.met.S.Sink.on c.args.input.now.calls c.read.new.self.calls c.args.sink.now c.args.output.now.calls c.finish.result c.finish.new.sink c.finish.new.output.calls
-    (read_end g.S.Sink.takes g.met.S.Sink.on c.args.input.now.calls c.loop-reads.input.calls c.read.new.self.calls c.args.sink.now c.args.output.now.calls c.loop-reads.reader c.loop-reads.sink c.finish.new.sink
+    reads_all g.S.Sink.takes g.met.S.Sink.on g.S.Sink.settled c.args.input.now.calls c.read.new.self.calls c.args.sink.now c.args.output.now.calls c.finish.result c.finish.new.sink c.finish.new.output.calls
+    (read_end g.S.Sink.takes g.met.S.Sink.on g.S.Sink.settled c.args.input.now.calls c.loop-reads.input.calls c.read.new.self.calls c.args.sink.now c.args.output.now.calls c.loop-reads.reader c.loop-reads.sink c.finish.new.sink
     c.loop-reads.output.calls c.finish.new.output.calls c.finish.result
     (c.in_ok-count.ensures.calls ∙ (ap (λ x. got_call x c.read.new.buffer ∷ c.loop-reads.input.calls) c.in-Some.is ∙ ap (λ (n : ℕ). Gave (take n c.read.new.buffer) ∷ c.loop-reads.input.calls) zero))
-    c.finish.ensures c.loop-reads.invariant.run)
+    c.finish.ensures.takes c.finish.ensures.settled c.loop-reads.invariant.run)
 
 pub take_piece-requires-clause-room : goal.take_piece-requires-clause-room
 take_piece-requires-clause-room g c =
@@ -102,8 +102,8 @@ take_piece-requires-clause-room g c =
 pub returns-in_err-end : goal.returns-in_err-end
 returns-in_err-end g c =
     let same : c.from_residual-in_err-end.result ≡ Err c.in_err-end.field-0.0 = grind arith in
-    subst (λ x. Reads g.S.Sink.takes c.args.input.now.calls c.read.new.self.calls c.args.sink.now c.args.output.now.calls x c.take_piece.new.sink c.take_piece.new.output.calls) (sym same)
-    (inl (read_stop g.S.Sink.takes g.met.S.Sink.on c.args.input.now.calls c.loop-reads.input.calls c.read.new.self.calls c.args.sink.now c.args.output.now.calls c.loop-reads.reader c.loop-reads.sink c.take_piece.new.sink
+    subst (λ x. Reads g.S.Sink.takes g.S.Sink.settled c.args.input.now.calls c.read.new.self.calls c.args.sink.now c.args.output.now.calls x c.take_piece.new.sink c.take_piece.new.output.calls) (sym same)
+    (inl (read_stop g.S.Sink.takes g.met.S.Sink.on g.S.Sink.settled c.args.input.now.calls c.loop-reads.input.calls c.read.new.self.calls c.args.sink.now c.args.output.now.calls c.loop-reads.reader c.loop-reads.sink c.take_piece.new.sink
     c.loop-reads.output.calls c.take_piece.new.output.calls (take c.in-Some.count c.read.new.buffer) (Err c.in_err-end.field-0.0)
     (c.in_ok-count.ensures.calls ∙ ap (λ x. got_call x c.read.new.buffer ∷ c.loop-reads.input.calls) c.in-Some.is) (no_answer _ _) c.in_err-end.ensures.pushes c.loop-reads.invariant.run))
 
@@ -111,7 +111,7 @@ pub returns-in-Some-2 : goal.returns-in-Some-2
 returns-in-Some-2 g c =
     let stopped = subst (λ x. Pushes g.S.Sink.takes c.loop-reads.reader c.loop-reads.sink c.loop-reads.output.calls (take c.in-Some.count c.read.new.buffer) (Ok x) c.take_piece.new.reader c.take_piece.new.sink
     c.take_piece.new.output.calls) c.in-Some-2.is c.in_ok-end.ensures.pushes in
-    read_stop g.S.Sink.takes g.met.S.Sink.on c.args.input.now.calls c.loop-reads.input.calls c.read.new.self.calls c.args.sink.now c.args.output.now.calls c.loop-reads.reader c.loop-reads.sink c.take_piece.new.sink
+    read_stop g.S.Sink.takes g.met.S.Sink.on g.S.Sink.settled c.args.input.now.calls c.loop-reads.input.calls c.read.new.self.calls c.args.sink.now c.args.output.now.calls c.loop-reads.reader c.loop-reads.sink c.take_piece.new.sink
     c.loop-reads.output.calls c.take_piece.new.output.calls (take c.in-Some.count c.read.new.buffer) (Ok (Some c.in-Some-2.end))
     (c.in_ok-count.ensures.calls ∙ ap (λ x. got_call x c.read.new.buffer ∷ c.loop-reads.input.calls) c.in-Some.is) (no_end (Ok (Some c.in-Some-2.end)) _ refl) stopped c.loop-reads.invariant.run
 
@@ -127,10 +127,10 @@ loop-reads-preserved g c =
     let passes = pushes_pass g.S.Sink.takes c.loop-reads.reader c.loop-reads.sink c.loop-reads.output.calls piece (Ok c.in_ok-end.field-0) c.take_piece.new.reader c.take_piece.new.sink c.take_piece.new.output.calls
     (ap Ok none) c.in_ok-end.ensures.pushes in
     record {
-      run = has_read_on g.S.Sink.takes g.met.S.Sink.on c.args.input.now.calls c.loop-reads.input.calls c.read.new.self.calls c.args.sink.now c.args.output.now.calls c.loop-reads.reader c.take_piece.new.reader
+      run = has_read_on g.S.Sink.takes g.met.S.Sink.on g.S.Sink.settled c.args.input.now.calls c.loop-reads.input.calls c.read.new.self.calls c.args.sink.now c.args.output.now.calls c.loop-reads.reader c.take_piece.new.reader
           c.loop-reads.sink c.take_piece.new.sink c.loop-reads.output.calls c.take_piece.new.output.calls piece
           (c.in_ok-count.ensures.calls ∙ ap (λ x. got_call x c.read.new.buffer ∷ c.loop-reads.input.calls) c.in-Some.is)
-          (taken_some c.in-Some.count c.read.new.buffer fits c.if-count-eq0.false) passes (c.in_ok-end.ensures.none_left (ap Ok none)) c.loop-reads.invariant.run;
+          (taken_some c.in-Some.count c.read.new.buffer fits c.if-count-eq0.false) passes (c.in_ok-end.ensures.none_left (ap Ok none)) (c.in_ok-end.ensures.settled (ap Ok none)) c.loop-reads.invariant.run;
       lines = lines_more size c.loop-reads.reads c.loop-reads.reader.lines c.take_piece.new.reader.lines c.loop-reads.invariant.lines (omega (arith, passes.counted, within));
       room = room_behind g.S.Sink.takes g.met.S.Sink.on g.S.Sink.may_take g.met.S.Sink.room g.met.S.Sink.fewer c.loop-reads.reader c.take_piece.new.reader c.loop-reads.sink c.take_piece.new.sink
           c.loop-reads.output.calls c.take_piece.new.output.calls piece size left within passes
@@ -142,5 +142,5 @@ loop-reads-preserved g c =
 
 pub returns : goal.returns
 returns g c =
-    inr (read_too_often g.S.Sink.takes g.met.S.Sink.on c.args.input.now.calls c.loop-reads.input.calls c.args.sink.now c.args.output.now.calls c.loop-reads.reader c.loop-reads.sink c.loop-reads.output.calls
+    inr (read_too_often g.S.Sink.takes g.met.S.Sink.on g.S.Sink.settled c.args.input.now.calls c.loop-reads.input.calls c.args.sink.now c.args.output.now.calls c.loop-reads.reader c.loop-reads.sink c.loop-reads.output.calls
     c.loop-reads.reads c.loop-reads.invariant.counted (omega arith) c.loop-reads.invariant.run)

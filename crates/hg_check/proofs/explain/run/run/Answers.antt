@@ -9,7 +9,7 @@ use Rattle.hg_check.proofs.LifeWhole.{broke, broke_cause, has_run}
 use Rattle.hg_check.proofs.explain.run.run.Goals as goal
 
 pub read-requires : goal.read-requires
-read-requires g c = record { room = (c.requires.fresh.ready, omega (arith, ap (λ (x : Content). x.last 0) c.requires.fresh.start.content)) }
+read-requires g c = record { room = (c.requires.fresh.ready, omega (arith, ap (λ (x : Content). x.last 0) c.requires.fresh.start.content)); settled = tt }
 
 pub returns-in_err-stop-clause-front : goal.returns-in_err-stop-clause-front
 returns-in_err-stop-clause-front g c first due =
