@@ -1,3 +1,5 @@
 pub mod Telling
 pub mod Filling
 pub mod Replaying
+pub mod Detectors
+pub mod Rooting

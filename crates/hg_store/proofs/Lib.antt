@@ -9,7 +9,6 @@ pub mod Unchanged
 pub mod NotMade
 pub mod Checkpointing
 pub mod Reading
-pub mod Rooting
 pub mod Recovering
 pub mod Runs
 pub mod Stepping

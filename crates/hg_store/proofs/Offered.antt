@@ -26,7 +26,7 @@ use Rattle.hg_pool.specs.Answers.{IsFull, IsTrueCause}
 use Rattle.hg_pool.specs.Maps as pools
 use Rattle.hg_pool.specs.Shown as pool
 use Rattle.hg_contents.specs.Choices.{Basis}
-use Rattle.hg_store.specs.Answers.{failed_in}
+use Rattle.hg_recovery.specs.Answers.{failed_in}
 use Rattle.hg_store.specs.Images.{FailuresBecome, failures_of}
 use Rattle.hg_store.proofs.Refusing.{rules_call_nothing}
 use Rattle.hg_store.specs.Kept.{IsSound, Parts, Standing, shown_of}

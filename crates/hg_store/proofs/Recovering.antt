@@ -24,9 +24,11 @@ use Rattle.hg_contents.specs.Images.{HasContent, Image, LeadFrom}
 use Rattle.hg_contents.specs.Stores.{IsLeft}
 use Rattle.hg_store.specs.declared.devices.Devices.{Devices}
 use Rattle.hg_store.specs.Images.{EachImage, EachReadsOrFailed, FilesReadSame, FilesWereRead, HasContentOf, HasContentOfOne, IsOnlyRead, KeepsCheckpoint, KeepsFiles, KeepsSlot, KeepsSlots, ReadsSlots, Recovers, read_of, states_of}
-use Rattle.hg_store.specs.Recovering.{CountedBy, HasRootThat, IsRooted, LacksSlots, NamesAbove, ReadsSameOrFault, Settled, Stay, made_of}
+use Rattle.hg_recovery.specs.Answers.{CountedBy}
+use Rattle.hg_recovery.specs.Rooting.{HasRootThat, IsRooted, NamesAbove}
+use Rattle.hg_store.specs.Recovering.{LacksSlots, ReadsSameOrFault, Settled, Stay, made_of}
 use Rattle.hg_store.specs.Shown.{ShownStore}
-use Rattle.hg_store.proofs.Rooting.{settled_leaves}
+use Rattle.hg_recovery.proofs.Rooting.{settled_leaves}
 
 -- other calls failed before
 pub counted_so : (r : Refusal) (old new a b more : ℕ) → CountedBy r old new → a ≡ old + more → b ≡ new + more → CountedBy r a b

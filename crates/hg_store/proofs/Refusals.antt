@@ -9,7 +9,8 @@ use Rattle.hg_store.specs.declared.devices.Caps.{Caps}
 use Rattle.hg_store.specs.declared.devices.Devices.{Devices}
 use Rattle.hg_store.specs.Images.{KeepsFiles, failures_of, read_of}
 use Rattle.hg_store.specs.Limits.{greatest_with, limits, limits_of}
-use Rattle.hg_store.specs.Recovering.{CountedBy, HasFewSets, HasLimits, HasNoContent, IsOfRecovery, LacksSlots}
+use Rattle.hg_recovery.specs.Answers.{CountedBy, IsOfRecovery}
+use Rattle.hg_store.specs.Recovering.{HasFewSets, HasLimits, HasNoContent, LacksSlots}
 use Rattle.hg_store.specs.Refusals.{IsNotOpened, IsTrueOf}
 use Rattle.hg_store.specs.Shown.{KeepsLimits, ShownStore}
 

@@ -44,8 +44,11 @@ use Rattle.hg_pool.specs.OfWords.{ReadsTrue}
 use Rattle.hg_pool.specs.Shown as pool
 use Rattle.hg_contents.specs.Images.{LeadFrom}
 use Rattle.hg_contents.proofs.Following.{followed_append, followed_events}
-use Rattle.hg_store.specs.Answers.{failed_in}
-use Rattle.hg_store.specs.Recovering.{CountsFailures, Fills, HasFullSlots, IsAccepted, IsAtRest, IsOfRecovery, IsTooSmall, WorksOrFault}
+use Rattle.hg_recovery.specs.Answers.{failed_in}
+use Rattle.hg_recovery.specs.Answers.{CountsFailures, IsOfRecovery, WorksOrFault}
+use Rattle.hg_recovery.specs.Detectors.{IsAtRest}
+use Rattle.hg_recovery.specs.Filling.{Fills, IsAccepted}
+use Rattle.hg_store.specs.Recovering.{HasFullSlots, IsTooSmall}
 
 -- a refusal tells how many calls failed
 pub journal_failed : (r : Refusal) (n : ℕ) → journals.after_refusal r n ≡ failed_in r + n

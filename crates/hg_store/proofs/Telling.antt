@@ -3,7 +3,7 @@ use Rattle.std.proofs.Common.{◌≡◌, ◌⊎◌, ◌∙◌, ℕ, ◌+◌, inl
 use Rattle.hg_model.specs.declared.verdict.Refusal.{Refusal}
 use Rattle.hg_model.specs.declared.verdict.Refusal.TheVariants.{Broken, FullSlots}
 use Rattle.hg_journal.specs.Journal.{IsOfReading}
-use Rattle.hg_store.specs.Recovering.{CountedBy, IsOfRecovery}
+use Rattle.hg_recovery.specs.Answers.{CountedBy, IsOfRecovery}
 
 pub of_reading : (r : Refusal) → IsOfReading r → IsOfRecovery r
 of_reading r (inl damaged) = inl damaged

@@ -1,7 +1,5 @@
 -- Which answers the steps of a checkpoint give.
 use Rattle.std.specs.Prelude.{◌≡◌, ◌≢◌, ◌⊎◌, ◌<◌, ◌≤◌, ℕ, Bool, true, false, Result, Ok, Err}
-use Rattle.hg_model.specs.declared.verdict.Refusal.{Refusal}
-use Rattle.hg_model.specs.declared.verdict.Refusal.TheVariants as refusal
 use Rattle.hg_checkpoint.specs.Phases as checkpoints
 use Rattle.hg_checkpoint.specs.declared.cause.Cause.{Cause}
 use Rattle.hg_checkpoint.specs.declared.cause.Cause.TheVariants as cause
@@ -72,12 +70,7 @@ IfRefused P (Ok value) = Unit {0}
 IfRefused P (Err (WrongPhase p)) = Unit {0}
 IfRefused P (Err (Refused r)) = P r
 
--- how many device calls failed in a step with this refusal
-abbrev pub failed_in : Refusal → ℕ
-failed_in refusal.DeviceFault = 1
-failed_in _ = 0
-
--- and in a step of a checkpoint with this answer
+-- how many device calls failed in a step of a checkpoint with this answer
 abbrev pub failed_by : {T : Type 0} → Result T StepFault → ℕ
 failed_by (Ok value) = 0
 failed_by (Err (WrongPhase p)) = 0

@@ -13,3 +13,4 @@ pub mod Limits
 pub mod Refusals
 pub use Rattle.hg_checkpoint.specs.Phases
 pub use Rattle.hg_journal.specs.Journal
+pub use Rattle.hg_recovery.specs.Answers as RecoveryAnswers

@@ -1,49 +1,41 @@
 -- The answers when a store is made or recovered.
-use Rattle.std.specs.Prelude.{◌≡◌, ◌≢◌, ◌⊎◌, ◌++◌, ◌+◌, ◌<◌, ℕ, ◌≤◌, List, [], ◌∷◌, All, length, drop, Option, Some, None, false, IsTrue, Result, Ok, Err, IfOk, IfErr, IfSome, OnOk}
+use Rattle.std.specs.Prelude.{◌≡◌, ◌≢◌, ◌⊎◌, ◌++◌, ◌+◌, ◌<◌, ℕ, ◌≤◌, List, [], ◌∷◌, length, drop, Option, Some, IsTrue, Result, Ok, Err, IfOk, IfErr, OnOk}
 use Rattle.hg_model.specs.declared.event.Named.{Named}
 use Rattle.hg_model.specs.declared.verdict.Refusal.{Refusal}
 use Rattle.hg_model.specs.declared.verdict.Refusal.TheVariants.{Damaged, FullSets, FullSlots, DeviceFault, OutOfMemory}
-use Rattle.hg_model.specs.declared.verdict.Verdict.TheVariants.{Accept}
 use Rattle.hg_model.specs.Contents.{Content}
-use Rattle.hg_model.specs.Verdicts.{verdict, standing_of}
-use Rattle.hg_model.specs.Change.{after, followed}
-use Rattle.hg_sets.specs.Interning.{Table, first_table}
+use Rattle.hg_model.specs.Change.{followed}
+use Rattle.hg_sets.specs.Interning.{Table}
 use Rattle.hg_sets.specs.declared.fault.SetFault.TheVariants.{Full}
 use Rattle.hg_detect.specs.Making.{Asks, sets_asked}
 use Rattle.hg_disk.specs.declared.disk.Disk as disk
 use Rattle.hg_disk.specs.Calls.{CallsAtMost}
 use Rattle.hg_disk.specs.State.{IsImage, counted, settled}
-use Rattle.hg_disk.specs.Moments.{Leaves, LeavesOnly}
+use Rattle.hg_disk.specs.Moments.{LeavesOnly}
 use Rattle.hg_gate.specs.Batches.{closed_gate, header}
 use Rattle.hg_journal.specs.Journal.{IsJournal, after_refusal}
 use Rattle.hg_detect.specs.Engine.{AtPresent}
 use Rattle.hg_detect.specs.Shown as detect
 use Rattle.hg_journal.specs.declared.journal.Journal.{Journal}
 use Rattle.hg_journal.specs.declared.journal.JournalReader.{JournalReader}
-use Rattle.hg_pages.specs.Files as files
-use Rattle.hg_pages.specs.declared.slot_file.SlotFile.{SlotFile}
 use Rattle.hg_journal.specs.Reading as journals
-use Rattle.hg_pool.specs.Kept.{Extends, HasSome, IsFaithful}
+use Rattle.hg_pool.specs.Kept.{HasSome, IsFaithful}
 use Rattle.hg_pool.specs.Maps as pools
 use Rattle.hg_pool.specs.Shown as pool
-use Rattle.hg_root.specs.Checkpoints.{Checkpoint, HasCheckpoint, HasPages, LieWithin, root_of}
-use Rattle.hg_root.specs.Finding.{StandsWith, number_in, root_in}
-use Rattle.hg_root.specs.Newest.{IsNewest}
-use Rattle.hg_root.specs.Grammar.{SetFits}
-use Rattle.hg_root.specs.Parts.{Parts}
+use Rattle.hg_root.specs.Checkpoints.{Checkpoint, HasCheckpoint, root_of}
+use Rattle.hg_root.specs.Finding.{number_in}
 use Rattle.hg_root.specs.Pairs as pairs
 use Rattle.hg_root.specs.declared.pair.RootPair.{RootPair}
-use Rattle.hg_root.specs.declared.pair.Newest.{Newest}
-use Rattle.hg_root.specs.declared.root.Root.{Root}
-use Rattle.hg_contents.specs.Choices.{Basis, Choice, HasRoots, HasSlots}
+use Rattle.hg_contents.specs.Choices.{Basis, Choice}
 use Rattle.hg_contents.specs.Images.{Gives, HasContent, Image, LeadFrom, start_of}
 use Rattle.hg_contents.specs.States.{IsLawfulState}
 use Rattle.hg_checkpoint.specs.declared.checkpointer.Checkpointer.{Checkpointer}
 use Rattle.hg_checkpoint.specs.Standing.{Stands}
-use Rattle.hg_checkpoint.specs.Tables.{NamesOf}
-use Rattle.hg_checkpoint.specs.Restoring.{failures_after, file_in}
 use Rattle.hg_store.specs.Shown.{ShownStore}
-use Rattle.hg_store.specs.Answers.{failed_in}
+use Rattle.hg_recovery.specs.Answers.{CountedBy, CountsFailures, IfFullSlots}
+use Rattle.hg_recovery.specs.Detectors.{IsReady}
+use Rattle.hg_recovery.specs.Filling.{Fills, IsAccepted}
+use Rattle.hg_recovery.specs.Rooting.{HasMoreSets, HasRootThat, IsStarted, NamesAbove, table_at}
 use Rattle.hg_store.specs.declared.create.CreateFault.{CreateFault}
 use Rattle.hg_store.specs.declared.create.CreateFault.TheVariants.{NotEmpty, Refused}
 use Rattle.hg_store.specs.declared.devices.Caps.{Caps}
@@ -76,28 +68,11 @@ pub record Stay {D : Type 0} (g : disk.Ghosts D) (old new : Devices D) : Type 0 
   pub root0 : LeavesOnly g old.root0 new.root0 (IsImage (g.state old.root0))
   pub root1 : LeavesOnly g old.root1 new.root1 (IsImage (g.state old.root1))
 
--- The detector keeps at most so many pages in memory, and has room for so many slots and sets.
-pub record HasSize {D : Type 0} (most : ℕ) (caps : Caps) (d : detect.ShownDetector (pool.ShownPool D)) : Type 0 where
-  pub frames : d.words.most_frames ≡ most
-  pub slots : d.words.slots ≡ caps.slots
-  pub sets : d.sets.limit ≡ caps.sets
-
 -- The store has the frames and the slots that were asked for, and over honest devices room for the sets that were.
 pub record HasLimits {D : Type 0} (g : disk.Ghosts D) (most : ℕ) (caps : Caps) (s : ShownStore D) : Type 0 where
   pub frames : s.detector.words.most_frames ≡ most
   pub slots : s.detector.words.slots ≡ caps.slots
   pub sets : IsTrue g.is_honest → s.detector.sets.limit ≡ caps.sets
-
--- The rules accept the event after this content.
-abbrev pub IsAccepted : Content → Named → Type 0
-IsAccepted c n = verdict (standing_of c) n ≡ Accept
-
--- From a content and a table of sets, the events lead to the last content and table; each is accepted after those before
--- it.
-abbrev pub Fills : List Named → Content → Table → Content → Table → Type 0
-Fills [] c table last filled = (last ≡ c) × (filled ≡ table)
-Fills (n ∷ events) c table last filled =
-    IsAccepted c n × (mid : Table) × Asks table (sets_asked c n.event) None mid × Fills events (after c n) mid last filled
 
 -- The table of sets is the one after the events of a journal behind those that the first content counts.
 pub record HasSets (start : Content) (first : Table) (journal : List ℕ) (c : Content) (table : Table) : Type 0 where
@@ -118,42 +93,11 @@ pub record IsTooSmall (start : Content) (first : Table) (journal : List ℕ) : T
   pub left : Table
   pub full : Asks table (sets_asked c next.event) (Some Full) left
 
--- FullSets is told only if a root has more than `sets` sets, and FullSlots only if it names a slot beyond `slots`.
-abbrev pub IsTooFew : ℕ → ℕ → Option Parts → Refusal → Type 0
-IsTooFew sets slots None refusal = (refusal ≢ FullSets) × (refusal ≢ FullSlots)
-IsTooFew sets slots (Some root) refusal = (refusal ≡ FullSets → sets < length root.sets) × (refusal ≡ FullSlots → ¬ All (λ p. p.slot < slots) root.pages)
-
--- the table of sets from which a recovery goes on, with room for `cap` sets: that of the root, or the first one
-abbrev pub table_at : ℕ → Option Parts → Table
-table_at cap None = first_table cap
-table_at cap (Some root) = record { limit = cap; sets = root.sets }
-
 -- The table of sets is the one that the events of the journal make from that of the newest root, or from the first one.
 pub record HasTable (cap : ℕ) (image : Image) (c : Content) (table : Table) : Type 0 where
   pub checkpoint : Option Checkpoint
   pub stands : HasCheckpoint checkpoint image.root0 image.root1 image.slots
   pub sets : HasSets (start_of checkpoint) (table_at cap (root_of checkpoint)) image.journal c table
-
--- The newest root of two files has P.
-pub record HasRootThat (P : Parts → Type 0) (one other : List ℕ) : Type 0 where
-  pub root : Parts
-  pub former : Option Parts
-  pub newest : IsNewest (Some root) former one other
-  pub has : P root
-
--- The root names a slot at `cap` or above.
-abbrev pub NamesAbove : ℕ → Parts → Type 0
-NamesAbove cap root = ¬ All (λ p. p.slot < cap) root.pages
-
--- The newest root has more than `cap` sets.
-abbrev pub HasMoreSets : ℕ → List ℕ → List ℕ → Type 0
-HasMoreSets cap one other = HasRootThat (λ root. cap < length root.sets) one other
-
--- If FullSets is told, the newest root has more than `most_sets` sets; if FullSlots is told, it names a slot beyond
--- `most_slots`.
-pub record HasNoRoom (most_sets most_slots : ℕ) (one other : List ℕ) (refusal : Refusal) : Type 0 where
-  pub sets : refusal ≡ FullSets → HasMoreSets most_sets one other
-  pub slots : refusal ≡ FullSlots → HasRootThat (NamesAbove most_slots) one other
 
 -- A table of `cap` sets is too small for an image: its newest root has more sets, or the events behind it ask for one too
 -- many.
@@ -161,19 +105,6 @@ abbrev pub HasFewSets : ℕ → Image → Type 0
 HasFewSets cap image =
     HasMoreSets cap image.root0 image.root1
     ⊎ ((c : Option Checkpoint) × HasCheckpoint c image.root0 image.root1 image.slots × IsTooSmall (start_of c) (table_at cap (root_of c)) image.journal)
-
--- The refusals of a recovery.
-abbrev pub IsOfRecovery : Refusal → Type 0
-IsOfRecovery refusal = (refusal ≡ Damaged) ⊎ ((refusal ≡ FullSets) ⊎ ((refusal ≡ FullSlots) ⊎ ((refusal ≡ DeviceFault) ⊎ (refusal ≡ OutOfMemory))))
-
--- How many calls of devices have failed after this answer; `old` had failed before it. DeviceFault adds one, and any other
--- answer adds none.
-abbrev pub CountedBy : Refusal → ℕ → ℕ → Type 0
-CountedBy refusal old new = new ≡ failed_in refusal + old
-
-abbrev pub CountsFailures : {T : Type 0} → Result T Refusal → ℕ → ℕ → Type 0
-CountsFailures (Ok value) old new = new ≡ old
-CountsFailures (Err refusal) old new = CountedBy refusal old new
 
 -- The parts of a new store have this basis: the journal has its events, the roots and the slots have its checkpoint, and
 -- the detector has the content that they give.
@@ -183,31 +114,6 @@ pub record IsBased {D : Type 0} (g : disk.Ghosts D) (journal : Journal D g) (d :
   pub stands : Stands g c d.words basis.now.checkpoint basis.now.former
   pub number : c.number ≡ number_in (root_of basis.now.checkpoint)
   pub gives : Gives basis.now.checkpoint basis.events (detect.content (pools.live g) d)
-
--- The detector can go on, and its content may go into a root.
-pub record IsReady {D : Type 0} (g : disk.Ghosts D) (d : detect.ShownDetector (pool.ShownPool D)) : Type 0 where
-  pub faithful : AtPresent (IsFaithful g) d
-  pub state : IsLawfulState (detect.content (pools.live g) d)
-  pub spelled : All SetFits d.sets.sets
-
--- A detector stands at a checkpoint, or at none: the roots and the slots have the checkpoint, and the detector has the
--- content from which the events go on.
-pub record IsStarted {D : Type 0} (g : disk.Ghosts D) (d : detect.ShownDetector (pool.ShownPool D)) (roots : RootPair D) (number : ℕ) (now : Choice) : Type 0 where
-  pub stands : pairs.Stands g roots (root_of now.checkpoint) now.former
-  pub is_number : number ≡ number_in (root_of now.checkpoint)
-  pub slots : Leaves (HasSlots now) (g.state (pools.disk_of d.words))
-  pub names : NamesOf d.words.root now.checkpoint
-  pub content : detect.content (pools.live g) d ≡ start_of now.checkpoint
-  pub ready : IsReady g d
-
--- A detector stands at the newest root of two files with these bytes, or at none, over a file of slots with these bytes. No other checkpoint is there.
-pub record IsRooted {D : Type 0} (g : disk.Ghosts D) (cap : ℕ) (one other slots : List ℕ) (d : detect.ShownDetector (pool.ShownPool D)) (roots : RootPair D) (number : ℕ) : Type 0 where
-  pub now : Choice
-  pub has_roots : HasRoots now one other
-  pub has_slots : HasSlots now slots
-  pub only : (c : Option Checkpoint) → HasCheckpoint c one other slots → start_of c ≡ start_of now.checkpoint
-  pub started : IsStarted g d roots number now
-  pub sets : d.sets ≡ table_at cap (root_of now.checkpoint)
 
 -- The device calls of making a store, at most: a write and a sync of the journal and of each root, and none of the slots.
 pub record MakingCalls {D : Type 0} (g : disk.Ghosts D) (old new : Devices D) : Type 0 where
@@ -225,23 +131,7 @@ abbrev pub tells_create : {D : Type 0} → Result (ShownStore D) (CreateFault ×
 tells_create (Ok store) n = n
 tells_create (Err refused) n = after_create_fault refused.0 n
 
--- a detector with the two root files, or what is handed back
-abbrev pub RootedOr : Type 0 → Type 0
-RootedOr D = Result (detect.ShownDetector (pool.ShownPool D) × RootPair D × ℕ) (Refusal × D × RootPair D)
-
 module _ {D : Type 0} where
-  abbrev pub slots_of : RootedOr D → D
-  slots_of (Ok r) = pools.disk_of r.0.words
-  slots_of (Err e) = e.1
-
-  abbrev pub roots_of : RootedOr D → RootPair D
-  roots_of (Ok r) = r.1
-  roots_of (Err e) = e.2
-
-  abbrev pub CountsRooted : RootedOr D → ℕ → ℕ → Type 0
-  CountsRooted (Ok r) old new = new ≡ old
-  CountsRooted (Err e) old new = CountedBy e.0 old new
-
   -- the devices after a making, or a recovery, with this answer
   abbrev pub made_of : {E : Type 0} → Result (ShownStore D) (E × Devices D) → Devices D
   made_of (Ok s) = s.devices
@@ -276,48 +166,9 @@ module _ {D : Type 0} {g : disk.Ghosts D} where
   CountsCaught (Ok s) old new = new ≡ old
   CountsCaught (Err e) old new = CountedBy e.0 old new
 
--- refused with Damaged only where P holds
-abbrev pub IfDamaged : {T X : Type 0} → Result T (Refusal × X) → Type 0 → Type 0
-IfDamaged result P = IfErr result (λ e. e.0 ≡ Damaged → P)
-
--- refused with FullSets only where P holds
-abbrev pub IfFullSets : {T X : Type 0} → Result T (Refusal × X) → Type 0 → Type 0
-IfFullSets result P = IfErr result (λ e. e.0 ≡ FullSets → P)
-
--- refused with FullSlots only where P holds
-abbrev pub IfFullSlots : {T X : Type 0} → Result T (Refusal × X) → Type 0 → Type 0
-IfFullSlots result P = IfErr result (λ e. e.0 ≡ FullSlots → P)
-
--- a call that hands nothing back is refused with Damaged only where P holds
-abbrev pub OnDamaged : {T : Type 0} → Result T Refusal → Type 0 → Type 0
-OnDamaged result P = result ≡ Err Damaged → P
-
-abbrev pub OnFullSets : {T : Type 0} → Result T Refusal → Type 0 → Type 0
-OnFullSets result P = result ≡ Err FullSets → P
-
-abbrev pub OnFullSlots : {T : Type 0} → Result T Refusal → Type 0 → Type 0
-OnFullSlots result P = result ≡ Err FullSlots → P
-
--- Unless a device failed, the pool works.
-abbrev pub WorksOrFault : {D T : Type 0} → Result T Refusal → pool.ShownPool D → Type 0
-WorksOrFault result p = (result ≢ Err DeviceFault) → pools.is_broken p ≡ false
-
--- No page of the pool waits for a checkpoint, and each slot of the newest root is one of the frozen map.
-pub record IsAtRest {D : Type 0} (p : pool.ShownPool D) : Type 0 where
-  pub none_waits : p.waiting ≡ []
-  pub frozen : Extends p.root p.frozen
-
 -- The refusals of a making.
 abbrev pub IsOfMaking : CreateFault → Type 0
 IsOfMaking fault = (fault ≡ NotEmpty) ⊎ ((fault ≡ Refused DeviceFault) ⊎ (fault ≡ Refused OutOfMemory))
-
--- The refusals of a search for the newest root.
-abbrev pub IsOfRoots : Refusal → Type 0
-IsOfRoots refusal = (refusal ≡ Damaged) ⊎ ((refusal ≡ DeviceFault) ⊎ (refusal ≡ OutOfMemory))
-
--- The detector's pages are those of the checkpoint of this root.
-abbrev pub NamesPages : {D X : Type 0} → Option Parts → Result (detect.ShownDetector (pool.ShownPool D)) X → Type 0
-NamesPages root result = (c : Option Checkpoint) → root_of c ≡ root → IfOk result (λ d. NamesOf d.words.root c)
 
 -- The image has no content.
 abbrev pub HasNoContent : Image → Type 0
@@ -403,111 +254,6 @@ module _ {D : Type 0} (g : disk.Ghosts D) where
   abbrev pub ReadsSameOrFault : Devices D → Result (ShownStore D) (Refusal × Devices D) → Type 0
   ReadsSameOrFault devices (Ok s) = FilesReadSame g devices s.devices
   ReadsSameOrFault devices (Err e) = e.0 ≢ DeviceFault → FilesReadSame g devices e.1
-
-  -- what a pair of roots leads to, where each has on it what it reads
-  abbrev pub IfSettled : RootPair D → (List ℕ → List ℕ → Type 0) → Type 0
-  IfSettled roots P =
-      (one other : List ℕ) → g.state (pairs.first_of roots) ≡ settled one → g.state (pairs.second_of roots) ≡ settled other → P one other
-
-  -- The pair stands with the two roots that were found, where each file has on it what it reads.
-  abbrev pub PairStands : (old new : RootPair D) → Result Newest Refusal → Type 0
-  PairStands old new result = IfSettled old (λ one other. IfOk result (StandsWith g new))
-
-  -- The root is the newest one of the pair.
-  abbrev pub IsNewestRoot : RootPair D → Option Root → Type 0
-  IsNewestRoot roots found =
-      (former : Option Parts) × IsNewest (root_in found) former (pairs.first_bytes g roots) (pairs.second_bytes g roots)
-
-  -- No other one is.
-  abbrev pub IsOnlyRoot : RootPair D → Option Root → Type 0
-  IsOnlyRoot roots found =
-      (root former : Option Parts) → IsNewest root former (pairs.first_bytes g roots) (pairs.second_bytes g roots) → root ≡ root_in found
-
-  -- The pair stands with the root, which is the newest one of these bytes, and the slots of the former one lie within the file.
-  abbrev pub StandsWithin : RootPair D → SlotFile D → Option Root → (one other : List ℕ) → Type 0
-  StandsWithin roots file found one other =
-      (former : Option Parts) × pairs.Stands g roots (root_in found) former × IsNewest (root_in found) former one other
-      × IfSome former (LieWithin (g.state (files.disk_of file)).contents)
-
-  -- It does, where each file has on it what it reads.
-  abbrev pub StandIfSettled : (old new : RootPair D) → SlotFile D → Result (Option Root) Refusal → Type 0
-  StandIfSettled old new file result = IfSettled old (λ one other. IfOk result (λ found. StandsWithin new file found one other))
-
-  -- The roots and the slots have no checkpoint.
-  abbrev pub HasNoCheckpoint : RootPair D → (slots : D) → Type 0
-  HasNoCheckpoint roots slots =
-      (c : Option Checkpoint) → ¬ HasCheckpoint c (pairs.first_bytes g roots) (pairs.second_bytes g roots) (g.state slots).contents
-
-  abbrev pub HasNoneIn : RootPair D → SlotFile D → Type 0
-  HasNoneIn roots file = HasNoCheckpoint roots (files.disk_of file)
-
-  -- Sets or slots are told to be too few only where the newest root of the pair asks for more.
-  abbrev pub LacksRoom : (most_sets most_slots : ℕ) → RootPair D → Refusal → Type 0
-  LacksRoom most_sets most_slots roots refusal =
-      HasNoRoom most_sets most_slots (pairs.first_bytes g roots) (pairs.second_bytes g roots) refusal
-
-  -- Where each of the disks has on it what it reads, a detector stands at the newest root.
-  abbrev pub IsRootedAt : ℕ → RootPair D → (slots : D) → RootedOr D → Type 0
-  IsRootedAt cap roots slots result =
-      (one other bytes : List ℕ) → g.state (pairs.first_of roots) ≡ settled one → g.state (pairs.second_of roots) ≡ settled other
-      → g.state slots ≡ settled bytes → IfOk result (λ r. IsRooted g cap one other bytes r.0 r.1 r.2)
-
-  -- Damaged is told only where the roots and the slots have no checkpoint.
-  abbrev pub CantRoot : RootPair D → (slots : D) → RootedOr D → Type 0
-  CantRoot roots slots result = IfErr result (λ e. e.0 ≡ Damaged → HasNoCheckpoint roots slots)
-
-  abbrev pub CountsRooting : RootPair D → (slots : D) → RootedOr D → Type 0
-  CountsRooting roots slots result =
-      CountsRooted result (pairs.failures g roots + g.failures slots) (pairs.failures g (roots_of result) + g.failures (slots_of result))
-
-  -- The file has the pages of a checkpoint of this root.
-  abbrev pub HasCheckpointOf : Option Parts → SlotFile D → Type 0
-  HasCheckpointOf root file = (c : Option Checkpoint) × (root_of c ≡ root) × IfSome c (HasPages (files.known g file))
-
-  -- It has those of none.
-  abbrev pub HasNoCheckpointOf : Option Parts → SlotFile D → Type 0
-  HasNoCheckpointOf root file = (c : Option Checkpoint) → root_of c ≡ root → ¬ IfSome c (HasPages (files.known g file))
-
-  -- The detector starts at the checkpoint of this root whose pages the file has.
-  abbrev pub StartsAt : Option Parts → SlotFile D → Result (detect.ShownDetector (pool.ShownPool D)) (Refusal × SlotFile D) → Type 0
-  StartsAt root file result =
-      (c : Option Checkpoint) → root_of c ≡ root → IfSome c (HasPages (files.known g file))
-      → IfOk result (λ d. detect.content (pools.live g) d ≡ start_of c)
-
-  abbrev pub CountsInFile : SlotFile D → Result (detect.ShownDetector (pool.ShownPool D)) (Refusal × SlotFile D) → Type 0
-  CountsInFile file result = g.failures (files.disk_of (file_in result)) ≡ failures_after result (g.failures (files.disk_of file))
-
-  -- A map that has the words still has them.
-  abbrev pub StaysFaithful : (old new : detect.ShownDetector (pool.ShownPool D)) → Type 0
-  StaysFaithful old new = AtPresent (IsFaithful g) old → AtPresent (IsFaithful g) new
-
-  -- The rules accept the event after the content of the detector.
-  abbrev pub Accepts : detect.ShownDetector (pool.ShownPool D) → Named → Type 0
-  Accepts d n = IsAccepted (detect.content (pools.live g) d) n
-
-  -- Over a map that has the words of a lawful state, Damaged is told only if the rules do not accept the event.
-  abbrev pub IsDamagedIfReady : (old : detect.ShownDetector (pool.ShownPool D)) → Named → Result (Unit {0}) Refusal → Type 0
-  IsDamagedIfReady old n result =
-      AtPresent (IsFaithful g) old → IsLawfulState (detect.content (pools.live g) old) → OnDamaged result (¬ Accepts old n)
-
-  -- Over a map that has the words, the detector has the content after one more event.
-  abbrev pub FollowsIfFaithful : (old new : detect.ShownDetector (pool.ShownPool D)) → Named → Result (Unit {0}) Refusal → Type 0
-  FollowsIfFaithful old new n result =
-      AtPresent (IsFaithful g) old → OnOk result (detect.content (pools.live g) new ≡ after (detect.content (pools.live g) old) n)
-
-  -- Over such a map, the table of sets has those of the event.
-  abbrev pub AsksIfFaithful : (old new : detect.ShownDetector (pool.ShownPool D)) → Named → Result (Unit {0}) Refusal → Type 0
-  AsksIfFaithful old new n result =
-      AtPresent (IsFaithful g) old → OnOk result (Asks old.sets (sets_asked (detect.content (pools.live g) old) n.event) None new.sets)
-
-  -- Over such a map, a table is told as full only if the event asks for a set too many.
-  abbrev pub IsFullIfFaithful : (old new : detect.ShownDetector (pool.ShownPool D)) → Named → Result (Unit {0}) Refusal → Type 0
-  IsFullIfFaithful old new n result =
-      AtPresent (IsFaithful g) old → result ≡ Err FullSets
-      → IsAccepted (detect.content (pools.live g) old) n × Asks old.sets (sets_asked (detect.content (pools.live g) old) n.event) (Some Full) new.sets
-
-  abbrev pub CountsWords : (old new : detect.ShownDetector (pool.ShownPool D)) → Result (Unit {0}) Refusal → Type 0
-  CountsWords old new result = CountsFailures result (g.failures (pools.disk_of old.words)) (g.failures (pools.disk_of new.words))
 
 -- Following the events of a journal
 module _ {D : Type 0} {g : disk.Ghosts D} where

@@ -7,7 +7,8 @@ use Rattle.hg_pages.specs.declared.slot_file.TheConstants.{MOST_SLOTS}
 use Rattle.hg_disk.specs.declared.disk.Disk as disk
 use Rattle.hg_store.specs.declared.devices.Devices.{Devices}
 use Rattle.hg_store.specs.Images.{KeepsFiles, failures_of, read_of}
-use Rattle.hg_store.specs.Recovering.{CountedBy, HasFewSets, HasNoContent, LacksSlots}
+use Rattle.hg_recovery.specs.Answers.{CountedBy}
+use Rattle.hg_store.specs.Recovering.{HasFewSets, HasNoContent, LacksSlots}
 
 module _ {D : Type 0} (g : disk.Ghosts D) where
   -- What a refusal says is true, by the devices before the call and behind it. Of honest devices: their bytes have no content; the greatest

@@ -5,7 +5,6 @@ ghost use Rattle.hg_model.specs.Change.{empty_content};
 ghost use Rattle.hg_detect.specs.Engine.{AtPresent};
 ghost use Rattle.hg_detect.specs.Shown.{content};
 ghost use Rattle.hg_disk.specs.Calls.{CallsAtMost};
-ghost use Rattle.hg_pool.specs.Kept.{IsFaithful};
 ghost use Rattle.hg_journal.specs.Reading as journals;
 ghost use Rattle.hg_pool.specs.Maps as pools;
 ghost use Rattle.hg_pool.specs.Maps.{live};
@@ -15,19 +14,21 @@ ghost use Rattle.hg_checkpoint.specs.declared.phase.Phase.TheVariants.{Idle};
 ghost use Rattle.hg_store.specs.Kept.{devices_of};
 ghost use Rattle.hg_store.specs.Images.{read_of};
 ghost use Rattle.hg_root.specs.Pairs.{AreGates, Stands};
-ghost use Rattle.hg_store.specs.Recovering.{CountsMaking, CountsNewFiles, HasLimits, HasSize, IsAtRest, IsEmpty, IsFreshOf, IsOfMaking, IsReady, MakingCalls, MayBeMade, WereNotEmpty, empty_image, first_in, journal_in, joined, made_of, second_in};
+ghost use Rattle.hg_recovery.specs.Detectors.{IsReady};
+ghost use Rattle.hg_store.specs.Recovering.{CountsMaking, CountsNewFiles, HasLimits, IsEmpty, IsFreshOf, IsOfMaking, MakingCalls, MayBeMade, WereNotEmpty, empty_image, first_in, journal_in, joined, made_of, second_in};
 ghost use Rattle.hg_store.specs.Store.{IsFresh, IsIdle};
 
 use crate::devices::{Caps, Devices};
 use crate::store::{MOST_PENDING, Store};
-use hg_checkpoint::Checkpointer;
+use hg_checkpoint::{Checkpointer, Limits};
 use hg_detect::detector::Detector;
 use hg_disk::Disk;
 use hg_journal::journal::{Journal, JournalRoom};
 use hg_model::event::Named;
 use hg_model::verdict::Refusal;
-use hg_pages::{MOST_SLOTS, SlotFile, Table};
+use hg_pages::{MOST_SLOTS, SlotFile};
 use hg_pool::Pool;
+use hg_recovery::empty_detector;
 use hg_root::RootPair;
 use hg_sets::MOST_SETS;
 use std::alloc::Global;
@@ -60,39 +61,6 @@ fn rooms(alloc: Global) -> Result<(Vec<Named>, JournalRoom), Refusal>
     let pending = pending_room(alloc)?;
     let journal = JournalRoom::new(alloc)?;
     Ok((pending, journal))
-}
-
-/// The detector of no events, over a file of slots; no slot is named. Without memory the file is handed back.
-pub(crate) fn empty_detector<D: Disk>(
-    alloc: Global,
-    file: SlotFile<D>,
-    frames: u16,
-    caps: Caps,
-) -> Result<Detector<Pool<D>>, SlotFile<D>>
-    requires frames { (4 ≤ frames) × (frames ≤ 4096) }
-    requires sets { (1 ≤ caps.sets) × (caps.sets ≤ MOST_SETS) }
-    requires slots { (1 ≤ caps.slots) × (caps.slots ≤ MOST_SLOTS) }
-    ensures content { IfOk result (λ d. content (live ⟦<D as Disk>⟧) d ≡ empty_content) }
-    ensures sets { IfOk result (λ d. d.sets ≡ first_table caps.sets) }
-    ensures file { IfOk result (λ d. d.words.file ≡ file) }
-    ensures root { IfOk result (λ d. d.words.root ≡ []) }
-    ensures size { IfOk result (HasSize frames caps) }
-    ensures rests { IfOk result (λ d. IsAtRest d.words) }
-    ensures lawful { IfOk result (AtPresent MayBring) }
-    ensures faithful { IsTrue D.is_honest → IfOk result (AtPresent (IsFaithful ⟦<D as Disk>⟧)) }
-    ensures handed_back { IfErr result (λ f. f ≡ file) }
-{
-    let pool = Pool::new(
-        alloc,
-        file,
-        Table::new(alloc),
-        usize::from(frames),
-        caps.slots,
-    )?;
-    match Detector::new(alloc, pool, caps.sets) {
-        Ok(detector) => Ok(detector),
-        Err(pool) => Err(pool.into_disks()),
-    }
 }
 
 /// Whether no device has a byte.
@@ -245,7 +213,12 @@ impl<D: Disk> Store<D> {
             root0,
             root1,
         } = devices;
-        let detector = match empty_detector(alloc, SlotFile::attach(slots), frames, caps) {
+        let limits = Limits {
+            sets: caps.sets,
+            slots: caps.slots,
+            frames: frames as usize,
+        };
+        let detector = match empty_detector(alloc, SlotFile::attach(slots), limits) {
             Ok(detector) => detector,
             Err(file) => {
                 let devices = Devices {

@@ -1,36 +1,35 @@
 //! Recovering a store.
 
-ghost use Rattle.std.specs.Prelude.{◌≡◌, ◌↔◌, ◌⊎◌, ◌+◌, ◌≤◌, ◌<◌, [], Err, Option, Some, None, vec_capacity, false, IsTrue, IfOk, IfErr, IfSome, OnOk};
+ghost use Rattle.std.specs.Prelude.{◌≡◌, ◌≤◌, ◌<◌, [], Err, vec_capacity, false, IsTrue, IfOk, IfErr, OnOk};
 ghost use Rattle.hg_detect.specs.Engine.{AtPresent};
 ghost use Rattle.hg_detect.specs.Shown.{content};
 ghost use Rattle.hg_disk.specs.Calls.{CallsAtMost};
 ghost use Rattle.hg_disk.specs.State.{counted, settled};
 ghost use Rattle.hg_journal.specs.Reading as journals;
-ghost use Rattle.hg_pages.specs.Files as files;
-ghost use Rattle.hg_pool.specs.Kept.{IsFaithful, Went};
+ghost use Rattle.hg_pool.specs.Kept.{Went};
 ghost use Rattle.hg_pool.specs.Maps as pools;
 ghost use Rattle.hg_pool.specs.OfWords.{MayBring};
-ghost use Rattle.hg_root.specs.Checkpoints.{LieWithin};
-ghost use Rattle.hg_root.specs.Finding.{AreWhole, HasNoNewest, IsNewestOf, IsOnlyOf, IsWholeIn, WasRead, number_in, root_in};
 ghost use Rattle.hg_root.specs.Pairs.{IsWorking, failures, first_of, second_of};
-ghost use Rattle.hg_checkpoint.specs.Restoring.{file_in};
 ghost use Rattle.hg_store.specs.Images.{EachReadsOrFailed, FailuresBecome, FilesWereRead, KeepContent, KeepsFiles, KeepsSlots, LeavesOld, ReadsSlots, Recovers, RootCallsAtMost, read_of};
-ghost use Rattle.hg_store.specs.Recovering.{CantCatchUp, CantFill, CantRoot, CantTakeSlot, CatchesUp, CountsCatching, CountsFailures, CountsInFile, CountsRecovery, CountsRooting, FillsSets, HasCheckpointOf, HasFewSets, HasItsTable, HasLimits, HasNoCheckpointOf, HasNoContent, HasNoneIn, HasSize, IfDamaged, IfFullSets, IsAtRest, IsNewestRoot, IsOfRecovery, IsOfRoots, IsOnlyRoot, IsReady, IsRecovered, IsRootedAt, IsTooFew, LacksRoom, LacksSlotsIfFull, MayCatchUp, NamesPages, OnDamaged, PairStands, ReadsSameOrFault, Settled, StandIfSettled, StartsAt, Stay, first_after, journal_after, made_of, roots_of, second_after, slots_of, table_at, words_after};
+ghost use Rattle.hg_recovery.specs.Answers.{IfDamaged, IfFullSets, IsOfRecovery};
+ghost use Rattle.hg_recovery.specs.Detectors.{IsAtRest};
+ghost use Rattle.hg_store.specs.Recovering.{CantCatchUp, CantFill, CantTakeSlot, CatchesUp, CountsCatching, CountsRecovery, FillsSets, HasFewSets, HasItsTable, HasLimits, HasNoContent, IsRecovered, LacksSlotsIfFull, MayCatchUp, ReadsSameOrFault, Settled, Stay, first_after, journal_after, made_of, second_after, words_after};
 ghost use Rattle.hg_store.specs.Store.{IsIdle};
 
-use crate::create::{empty_detector, made, pending_room};
+use crate::create::{made, pending_room};
 use crate::devices::{Caps, Devices};
 use crate::replay::replay;
 use crate::store::{MOST_PENDING, Store};
-use hg_checkpoint::{Checkpointer, lies_within, restored};
+use hg_checkpoint::{Checkpointer, Limits};
 use hg_detect::detector::Detector;
 use hg_disk::{Disk, DiskFault};
 use hg_journal::journal::Journal;
 use hg_model::event::Named;
 use hg_model::verdict::Refusal;
-use hg_pages::{MOST_SLOTS, SlotFile};
+use hg_pages::MOST_SLOTS;
 use hg_pool::Pool;
-use hg_root::{Newest, Root, RootFault, RootPair};
+use hg_recovery::rooted;
+use hg_root::RootPair;
 use hg_sets::MOST_SETS;
 use std::alloc::Global;
 
@@ -49,114 +48,6 @@ fn sync_all<D: Disk>(devices: &mut Devices<D>) -> Result<(), DiskFault>
     devices.slots.sync()?;
     devices.root0.sync()?;
     devices.root1.sync()
-}
-
-/// The two roots of two files that can be used.
-fn newest<D: Disk>(alloc: Global, roots: &mut RootPair<D>) -> Result<Newest, Refusal>
-    requires works { IsWorking roots.old }
-    ensures found { IsTrue D.is_honest → IfOk result (IsNewestOf ⟦<D as Disk>⟧ roots.old) }
-    ensures only { IsTrue D.is_honest → IfOk result (IsOnlyOf ⟦<D as Disk>⟧ roots.old) }
-    ensures whole { IfOk result AreWhole }
-    ensures stands { IsTrue D.is_honest → PairStands ⟦<D as Disk>⟧ roots.old roots.new result }
-    ensures damaged { IsTrue D.is_honest → OnDamaged result (HasNoNewest ⟦<D as Disk>⟧ roots.old) }
-    ensures works { OnOk result (IsWorking roots.new) }
-    ensures refusal { IfErr result IsOfRoots }
-    ensures first { WasRead ⟦<D as Disk>⟧ (first_of roots.old) (first_of roots.new) }
-    ensures second { WasRead ⟦<D as Disk>⟧ (second_of roots.old) (second_of roots.new) }
-    ensures device { CountsFailures result (failures ⟦<D as Disk>⟧ roots.old) (failures ⟦<D as Disk>⟧ roots.new) }
-{
-    match roots.newest(alloc) {
-        Ok(found) => Ok(found),
-        Err(RootFault::DeviceFault) => Err(Refusal::DeviceFault),
-        Err(RootFault::OutOfMemory) => Err(Refusal::OutOfMemory),
-        Err(RootFault::Damaged) => Err(Refusal::Damaged),
-        Err(RootFault::Broken) => Err(Refusal::Damaged),
-    }
-}
-
-/// Whether the slots that a root names lie within the file, if there is a root.
-fn lie_within<D: Disk>(root: &Option<Root>, file: &SlotFile<D>) -> bool
-    ensures { IsTrue result ↔ IfSome (root_in root.now) (LieWithin (D.state (files.disk_of file.now)).contents) }
-{
-    match root {
-        Some(root) => lies_within(root, file),
-        None => true,
-    }
-}
-
-/// The newest root of two files, or none, if the slots of the other root lie within the file of slots.
-fn standing<D: Disk>(
-    alloc: Global,
-    roots: &mut RootPair<D>,
-    file: &SlotFile<D>,
-) -> Result<Option<Root>, Refusal>
-    requires works { IsWorking roots.old }
-    ensures found { IsTrue D.is_honest → IfOk result (IsNewestRoot ⟦<D as Disk>⟧ roots.old) }
-    ensures only { IsTrue D.is_honest → IfOk result (IsOnlyRoot ⟦<D as Disk>⟧ roots.old) }
-    ensures whole { IfOk result IsWholeIn }
-    ensures stands { IsTrue D.is_honest → StandIfSettled ⟦<D as Disk>⟧ roots.old roots.new file.now result }
-    ensures damaged { IsTrue D.is_honest → OnDamaged result (HasNoneIn ⟦<D as Disk>⟧ roots.old file.now) }
-    ensures works { OnOk result (IsWorking roots.new) }
-    ensures refusal { IfErr result IsOfRoots }
-    ensures first { WasRead ⟦<D as Disk>⟧ (first_of roots.old) (first_of roots.new) }
-    ensures second { WasRead ⟦<D as Disk>⟧ (second_of roots.old) (second_of roots.new) }
-    ensures device { CountsFailures result (failures ⟦<D as Disk>⟧ roots.old) (failures ⟦<D as Disk>⟧ roots.new) }
-{
-    let Newest { root, former } = newest(alloc, roots)?;
-    if !lie_within(&former, file) {
-        return Err(Refusal::Damaged);
-    }
-    Ok(root)
-}
-
-/// The caps of the detector that a root makes.
-fn caps_of(frames: u16, caps: Caps) -> hg_checkpoint::Limits
-    ensures { (result.sets ≡ caps.sets) × (result.slots ≡ caps.slots) × (result.frames ≡ frames) }
-{
-    hg_checkpoint::Limits {
-        sets: caps.sets,
-        slots: caps.slots,
-        frames: usize::from(frames),
-    }
-}
-
-/// The detector of a root, or that of no events if there is no root.
-fn detector_of<D: Disk>(
-    alloc: Global,
-    found: Option<Root>,
-    file: SlotFile<D>,
-    frames: u16,
-    caps: Caps,
-) -> Result<Detector<Pool<D>>, (Refusal, SlotFile<D>)>
-    requires frames { (4 ≤ frames) × (frames ≤ 4096) }
-    requires sets { (1 ≤ caps.sets) × (caps.sets ≤ MOST_SETS) }
-    requires slots { (1 ≤ caps.slots) × (caps.slots ≤ MOST_SLOTS) }
-    requires whole { IsWholeIn found }
-    requires works { files.is_broken file ≡ false }
-    ensures sets { IfOk result (λ d. d.sets ≡ table_at caps.sets (root_in found)) }
-    ensures content { IsTrue D.is_honest → StartsAt ⟦<D as Disk>⟧ (root_in found) file result }
-    ensures stands { IsTrue D.is_honest → OnOk result (HasCheckpointOf ⟦<D as Disk>⟧ (root_in found) file) }
-    ensures damaged { IsTrue D.is_honest → IfDamaged result (HasNoCheckpointOf ⟦<D as Disk>⟧ (root_in found) file) }
-    ensures lawful { IfOk result (AtPresent MayBring) }
-    ensures faithful { IsTrue D.is_honest → IfOk result (AtPresent (IsFaithful ⟦<D as Disk>⟧)) }
-    ensures ready { IsTrue D.is_honest → IfOk result (IsReady ⟦<D as Disk>⟧) }
-    ensures names { NamesPages (root_in found) result }
-    ensures size { IfOk result (HasSize frames caps) }
-    ensures rests { IfOk result (λ d. IsAtRest d.words) }
-    ensures state { D.state (files.disk_of (file_in result)) ≡ D.state (files.disk_of file) }
-    ensures any_moment { LeavesOld ⟦<D as Disk>⟧ (files.disk_of file) (files.disk_of (file_in result)) }
-    ensures unbroken { files.is_broken (file_in result) ≡ false }
-    ensures device { CountsInFile ⟦<D as Disk>⟧ file result }
-    ensures full { IfErr result (λ e. IsTooFew caps.sets caps.slots (root_in found) e.0) }
-    ensures refusal { IfErr result (λ e. IsOfRecovery e.0) }
-{
-    match found {
-        Some(root) => restored(alloc, root, file, caps_of(frames, caps)),
-        None => match empty_detector(alloc, file, frames, caps) {
-            Ok(detector) => Ok(detector),
-            Err(file) => Err((Refusal::OutOfMemory, file)),
-        },
-    }
 }
 
 /// The store of a journal and a detector that stands at the newest root. The detector follows the events behind that root.
@@ -200,57 +91,6 @@ fn caught_up<D: Disk>(
     }
     let checkpointer = Checkpointer::new(alloc, roots, number);
     Ok(made(journal, detector, checkpointer, pending))
-}
-
-/// The detector that stands at the newest root of two files, or at none, over the file of slots; the two files; and the number of the
-/// root. Each page that the root names is read. A refusal hands the disks back.
-fn rooted<D: Disk>(
-    alloc: Global,
-    slots: D,
-    roots: RootPair<D>,
-    frames: u16,
-    caps: Caps,
-) -> Result<(Detector<Pool<D>>, RootPair<D>, u64), (Refusal, D, RootPair<D>)>
-    requires frames { (4 ≤ frames) × (frames ≤ 4096) }
-    requires sets { (1 ≤ caps.sets) × (caps.sets ≤ MOST_SETS) }
-    requires slots { (1 ≤ caps.slots) × (caps.slots ≤ MOST_SLOTS) }
-    requires works { IsWorking roots }
-    ensures rooted { IsTrue D.is_honest → IsRootedAt ⟦<D as Disk>⟧ caps.sets roots slots result }
-    ensures lawful { IfOk result (λ r. AtPresent MayBring r.0) }
-    ensures size { IfOk result (λ r. HasSize frames caps r.0) }
-    ensures rests { IfOk result (λ r. IsAtRest r.0.words) }
-    ensures unbroken { IfOk result (λ r. pools.is_broken r.0.words ≡ false) }
-    ensures damaged { IsTrue D.is_honest → CantRoot ⟦<D as Disk>⟧ roots slots result }
-    ensures full { IsTrue D.is_honest → IfErr result (λ e. LacksRoom ⟦<D as Disk>⟧ caps.sets caps.slots roots e.0) }
-    ensures roots_work { IfOk result (λ r. IsWorking r.1) }
-    ensures refusal { IfErr result (λ e. IsOfRecovery e.0) }
-    ensures state { D.state (slots_of result) ≡ D.state slots }
-    ensures any_moment { LeavesOld ⟦<D as Disk>⟧ slots (slots_of result) }
-    ensures first { WasRead ⟦<D as Disk>⟧ (first_of roots) (first_of (roots_of result)) }
-    ensures second { WasRead ⟦<D as Disk>⟧ (second_of roots) (second_of (roots_of result)) }
-    ensures device { CountsRooting ⟦<D as Disk>⟧ roots slots result }
-{
-    let mut roots = roots;
-    let file = SlotFile::attach(slots);
-    let found = match standing(alloc, &mut roots, &file) {
-        Ok(found) => found,
-        Err(refusal) => return Err((refusal, file.into_disks(), roots)),
-    };
-    let number = number_of(&found);
-    match detector_of(alloc, found, file, frames, caps) {
-        Ok(detector) => Ok((detector, roots, number)),
-        Err((refusal, file)) => Err((refusal, file.into_disks(), roots)),
-    }
-}
-
-/// The number of a root, 0 if there is none.
-fn number_of(root: &Option<Root>) -> u64
-    ensures { result ≡ number_in (root_in root.now) }
-{
-    match root {
-        Some(root) => root.number,
-        None => 0,
-    }
 }
 
 /// The devices of a store that was not made.
@@ -304,7 +144,12 @@ fn recovered<D: Disk>(
         Ok(journal) => journal,
         Err((refusal, journal)) => return Err((refusal, handed_back(journal, slots, roots))),
     };
-    match rooted(alloc, slots, roots, frames, caps) {
+    let limits = Limits {
+        sets: caps.sets,
+        slots: caps.slots,
+        frames: frames as usize,
+    };
+    match rooted(alloc, slots, roots, limits) {
         Ok((detector, roots, number)) => {
             match caught_up(alloc, journal, detector, roots, number, pending) {
                 Ok(store) => Ok(store),

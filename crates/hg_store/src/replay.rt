@@ -12,7 +12,9 @@ ghost use Rattle.hg_pool.specs.Kept.{Went};
 ghost use Rattle.hg_pool.specs.Maps as pools;
 ghost use Rattle.hg_pool.specs.Maps.{live};
 ghost use Rattle.hg_pool.specs.OfWords.{MayBring};
-ghost use Rattle.hg_store.specs.Recovering.{Accepts, AsksIfFaithful, CantLeadOn, CountsFailures, CountsReplay, CountsWords, FillsSets, Follows, FollowsIfFaithful, HasFewer, HasPassed, IfAt, IfAtFirst, IfOpens, IsDamagedFrom, IsDamagedIfReady, IsFullFrom, IsFullIfFaithful, IsOfRecovery, LacksSets, LeadsTo, OnDamaged, OnFullSets, OnFullSlots, StaysFaithful, WorksOrFault};
+ghost use Rattle.hg_recovery.specs.Answers.{CountsFailures, IsOfRecovery, OnDamaged, OnFullSets, OnFullSlots, WorksOrFault};
+ghost use Rattle.hg_recovery.specs.Replaying.{Accepts, AsksIfFaithful, CountsWords, FollowsIfFaithful, IsDamagedIfReady, IsFullIfFaithful, StaysFaithful};
+ghost use Rattle.hg_store.specs.Recovering.{CantLeadOn, CountsReplay, FillsSets, Follows, HasFewer, HasPassed, IfAt, IfAtFirst, IfOpens, IsDamagedFrom, IsFullFrom, LacksSets, LeadsTo};
 ghost use Rattle.hg_store.specs.Images.{LeavesOld};
 
 use hg_detect::detector::Detector;

@@ -18,10 +18,11 @@ use Rattle.hg_contents.specs.Images.{LeadFrom}
 use Rattle.hg_checkpoint.proofs.Staying.{slots_stay}
 use Rattle.hg_store.specs.declared.devices.Devices.{Devices}
 use Rattle.hg_store.specs.Images.{EachImage, FilesWereRead, HasContentOf, failures_of, read_of}
-use Rattle.hg_store.specs.Recovering.{HasFullSlots, HasRootThat, HasSets, IsTooSmall, NamesAbove, table_at}
+use Rattle.hg_recovery.specs.Rooting.{HasRootThat, NamesAbove, table_at}
+use Rattle.hg_store.specs.Recovering.{HasFullSlots, HasSets, IsTooSmall}
 use Rattle.hg_store.proofs.Recovering.{checkpoint_kept, counted_so, moved, read_alone, read_on, read_to, root_read, uncalled, uncalled_root, with_pages}
 use Rattle.hg_store.proofs.Replaying.{fills_limit}
-use Rattle.hg_store.proofs.Rooting.{settled_leaves}
+use Rattle.hg_recovery.proofs.Rooting.{settled_leaves}
 use Rattle.hg_store.proofs.Telling.{reading_takes_none}
 use Rattle.hg_store.proofs.recover.recovered.Goals as goal
 

@@ -11,7 +11,9 @@ use Rattle.hg_journal.specs.Reading.{disk_of}
 use Rattle.hg_journal.proofs.Journaling.{bytes_now}
 use Rattle.hg_model.specs.Parts.{Parts}
 use Rattle.hg_pool.specs.Maps as pools
-use Rattle.hg_store.specs.Recovering.{CountsFailures, CountsReplay, Fills, IsOfRecovery, IsTooSmall, failures_in}
+use Rattle.hg_recovery.specs.Answers.{CountsFailures, IsOfRecovery}
+use Rattle.hg_recovery.specs.Filling.{Fills}
+use Rattle.hg_store.specs.Recovering.{CountsReplay, IsTooSmall, failures_in}
 use Rattle.hg_store.proofs.Replaying.{all_led, behind_seen, content_in, on_ok}
 use Rattle.hg_store.proofs.Telling.{counted_beside, of_reading, reading_takes_none}
 use Rattle.hg_store.proofs.Staying.{went_nowhere}

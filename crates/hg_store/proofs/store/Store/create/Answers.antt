@@ -13,7 +13,7 @@ use Rattle.hg_store.specs.Recovering.{MakingCalls, empty_image}
 use Rattle.hg_model.specs.declared.verdict.Refusal.TheVariants.{DeviceFault, OutOfMemory}
 use Rattle.hg_store.specs.declared.create.CreateFault.TheVariants.{Refused}
 use Rattle.hg_store.specs.declared.devices.Devices.{Devices}
-use Rattle.hg_store.proofs.Making.{first_ready}
+use Rattle.hg_recovery.proofs.Detectors.{first_ready}
 use Rattle.hg_store.proofs.store.Store.create.Goals as goal
 
 module _ {D : Type 0} (g : disk.Ghosts D) where

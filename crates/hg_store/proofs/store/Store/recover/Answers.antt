@@ -8,7 +8,7 @@ use Rattle.hg_contents.specs.Images.{HasContent, Image}
 use Rattle.hg_store.specs.Recovering.{HasFewSets, HasTable, LacksSlots, made_of}
 use Rattle.hg_store.specs.Store.{IsFresh}
 use Rattle.hg_store.proofs.Recovering.{few_calls, files_read, files_synced, lacks_before, only_synced, read_once, reads_same, same_or_fault, same_read, same_settled, slots_read, slots_synced, synced_first}
-use Rattle.hg_store.proofs.Making.{if_err}
+use Rattle.hg_recovery.proofs.Detectors.{if_err}
 use Rattle.hg_store.proofs.store.Store.recover.Goals as goal
 
 pub returns-in-Err-clause-images : goal.returns-in-Err-clause-images

@@ -20,7 +20,8 @@ use Rattle.hg_checkpoint.specs.Tables.{NamesOf}
 use Rattle.hg_contents.specs.Choices.{Choice, HasSlots}
 use Rattle.hg_contents.specs.Images.{start_of}
 use Rattle.hg_contents.proofs.Contents.{one_start}
-use Rattle.hg_store.specs.Recovering.{HasNoRoom, IsReady, IsRooted, IsTooFew, table_at}
+use Rattle.hg_recovery.specs.Detectors.{IsReady}
+use Rattle.hg_recovery.specs.Rooting.{HasNoRoom, IsRooted, IsTooFew, table_at}
 
 -- what holds of the former root holds of the lesser one
 pub of_former : (lesser former : Option Parts) (P : Parts → Type 0) → IsFormer lesser former → IfSome former P → IfSome lesser P

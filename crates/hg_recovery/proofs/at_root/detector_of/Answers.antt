@@ -1,4 +1,4 @@
-use Rattle.std.proofs.Common.{◌≡◌, ◌<◌, ◌∙◌, inl, inr, ℕ, false, All, length, Option, None, Some, Result, Ok, Err, refl, sym, ap, subst, rules}
+use Rattle.std.proofs.Common.{◌≡◌, ◌∙◌, inl, inr, ℕ, false, Option, None, Some, Result, Ok, Err, refl, sym, ap, subst, rules}
 use Rattle.std.specs.Prelude.{IfOk, IfSome}
 use Rattle.hg_model.specs.declared.verdict.Refusal.{Refusal}
 use Rattle.hg_model.specs.declared.verdict.Refusal.TheVariants.{Damaged, OutOfMemory}
@@ -19,11 +19,13 @@ use Rattle.hg_root.specs.Roots.{parts_of}
 use Rattle.hg_contents.specs.Images.{start_of}
 use Rattle.hg_checkpoint.specs.Restoring.{IsTrueCause, detector_of}
 use Rattle.hg_checkpoint.specs.declared.limits.Limits.{Limits}
-use Rattle.hg_store.specs.Images.{LeavesOld}
-use Rattle.hg_store.specs.Recovering.{HasSize, IsAtRest, IsOfRecovery, IsTooFew, table_at}
-use Rattle.hg_store.proofs.Making.{each_names, each_ready, first_ready, if_err, some_checkpoint}
-use Rattle.hg_store.proofs.Replaying.{on_ok}
-use Rattle.hg_store.proofs.recover.detector_of.Goals as goal
+use Rattle.hg_disk.specs.Moments.{AddsNoImage}
+use Rattle.hg_recovery.specs.Answers.{IsOfRecovery}
+use Rattle.hg_recovery.specs.Detectors.{HasSize, IsAtRest}
+use Rattle.hg_recovery.specs.Rooting.{IsTooFew, table_at}
+use Rattle.hg_recovery.proofs.Detectors.{each_names, each_ready, first_ready, if_err, some_checkpoint}
+use Rattle.hg_recovery.proofs.Replaying.{on_ok}
+use Rattle.hg_recovery.proofs.at_root.detector_of.Goals as goal
 
 no_root : (o : Option Checkpoint) → root_of o ≡ None → o ≡ None
 no_root None is = refl
@@ -67,16 +69,16 @@ of_cause g root caps file works refusal.OutOfMemory cause = inr (inr (inr (inr r
 pub returns-in-Some-clause-sets : goal.returns-in-Some-clause-sets
 returns-in-Some-clause-sets g c =
     let root = c.in-Some.root in
-    let caps = c.caps_of.result in
-    let sets = c.args.caps.sets in
+    let caps = c.args.limits in
+    let sets = c.args.limits.sets in
     if_ok (λ d. d ≡ detector_of root caps d.words.file) (λ d. d.sets ≡ table_at sets (root_in c.args.found)) c.restored.result
-    (λ d is. ap (λ (x : detect.ShownDetector (pool.ShownPool g.row.D.Denot)). x.sets) is ∙ ap (λ (n : ℕ). table_at n (Some (parts_of root))) c.caps_of.ensures.0 ∙ sym (ap (λ (o : Option Parts). table_at sets o) (ap root_in c.in-Some.is)))
+    (λ d is. ap (λ (x : detect.ShownDetector (pool.ShownPool g.row.D.Denot)). x.sets) is ∙ sym (ap (λ (o : Option Parts). table_at sets o) (ap root_in c.in-Some.is)))
     c.restored.ensures.shown
 
 pub returns-in-Some-clause-refusal : goal.returns-in-Some-clause-refusal
 returns-in-Some-clause-refusal g c =
     let root = parts_of c.in-Some.root in
-    if_err (λ e. IsTrueCause g.D.Disk root c.caps_of.result c.args.file e.0) (λ e. IsOfRecovery e.0) c.restored.result (λ e cause. of_cause g.D.Disk root c.caps_of.result c.args.file c.requires.works e.0 cause) c.restored.ensures.refusal
+    if_err (λ e. IsTrueCause g.D.Disk root c.args.limits c.args.file e.0) (λ e. IsOfRecovery e.0) c.restored.result (λ e cause. of_cause g.D.Disk root c.args.limits c.args.file c.requires.works e.0 cause) c.restored.ensures.refusal
 
 pub returns-in-Some-clause-content : goal.returns-in-Some-clause-content
 returns-in-Some-clause-content g c honest o is has =
@@ -93,36 +95,36 @@ pub returns-in-Some-clause-damaged : goal.returns-in-Some-clause-damaged
 returns-in-Some-clause-damaged g c honest =
     let root = parts_of c.in-Some.root in
     let slots = known g.D.Disk c.args.file in
-    if_err (λ e. IsTrueCause g.D.Disk root c.caps_of.result c.args.file e.0) (λ e. e.0 ≡ Damaged → (o : Option Checkpoint) → root_of o ≡ root_in c.args.found → ¬ IfSome o (HasPages slots)) c.restored.result
+    if_err (λ e. IsTrueCause g.D.Disk root c.args.limits c.args.file e.0) (λ e. e.0 ≡ Damaged → (o : Option Checkpoint) → root_of o ≡ root_in c.args.found → ¬ IfSome o (HasPages slots)) c.restored.result
     (λ e cause told o is has.
     let k = some_checkpoint o root (is ∙ ap root_in c.in-Some.is) in
-    let none = subst (λ (r : Refusal). IsTrueCause g.D.Disk root c.caps_of.result c.args.file r) told cause in
+    let none = subst (λ (r : Refusal). IsTrueCause g.D.Disk root c.args.limits c.args.file r) told cause in
     none honest (k.0, k.2, subst (λ (p : Option Checkpoint). IfSome p (HasPages slots)) k.1 has))
     c.restored.ensures.refusal
 
 pub returns-in-Some-clause-full : goal.returns-in-Some-clause-full
 returns-in-Some-clause-full g c =
     let root = parts_of c.in-Some.root in
-    let sets = c.args.caps.sets in
-    let slots = c.args.caps.slots in
-    if_err (λ e. IsTrueCause g.D.Disk root c.caps_of.result c.args.file e.0) (λ e. IsTooFew sets slots (root_in c.args.found) e.0) c.restored.result
+    let sets = c.args.limits.sets in
+    let slots = c.args.limits.slots in
+    if_err (λ e. IsTrueCause g.D.Disk root c.args.limits c.args.file e.0) (λ e. IsTooFew sets slots (root_in c.args.found) e.0) c.restored.result
     (λ e cause. subst (λ (o : Option Parts). IsTooFew sets slots o e.0) (sym (ap root_in c.in-Some.is)) (
-      λ told. subst (λ (n : ℕ). n < length root.sets) c.caps_of.ensures.0 (subst (λ (r : Refusal). IsTrueCause g.D.Disk root c.caps_of.result c.args.file r) told cause),
-      λ told. subst (λ (n : ℕ). ¬ All (λ p. p.slot < n) root.pages) c.caps_of.ensures.1 (subst (λ (r : Refusal). IsTrueCause g.D.Disk root c.caps_of.result c.args.file r) told cause),
+      λ told. (subst (λ (r : Refusal). IsTrueCause g.D.Disk root c.args.limits c.args.file r) told cause),
+      λ told. (subst (λ (r : Refusal). IsTrueCause g.D.Disk root c.args.limits c.args.file r) told cause),
     ))
     c.restored.ensures.refusal
 
 pub returns-in-Some-clause-ready : goal.returns-in-Some-clause-ready
 returns-in-Some-clause-ready g c honest =
     let root = c.in-Some.root in
-    each_ready g.D.Disk root c.caps_of.result (known g.D.Disk c.args.file) (subst IsWholeIn c.in-Some.is c.requires.whole).1 c.restored.result (c.restored.ensures.stands honest) c.restored.ensures.shown (c.restored.ensures.content honest) (c.restored.ensures.faithful honest)
+    each_ready g.D.Disk root c.args.limits (known g.D.Disk c.args.file) (subst IsWholeIn c.in-Some.is c.requires.whole).1 c.restored.result (c.restored.ensures.stands honest) c.restored.ensures.shown (c.restored.ensures.content honest) (c.restored.ensures.faithful honest)
 
 pub returns-in-Ok-clause-ready : goal.returns-in-Ok-clause-ready
-returns-in-Ok-clause-ready g c honest = first_ready g.D.Disk c.in-Ok.detector c.args.caps.sets (search rules) (search rules) (search rules)
+returns-in-Ok-clause-ready g c honest = first_ready g.D.Disk c.in-Ok.detector c.args.limits.sets (search rules) (search rules) (search rules)
 
 pub returns-in-Some-clause-names : goal.returns-in-Some-clause-names
 returns-in-Some-clause-names g c o is =
-    each_names g.D.Disk c.in-Some.root c.caps_of.result o (subst IsWholeIn c.in-Some.is c.requires.whole).1 (is ∙ ap root_in c.in-Some.is) c.restored.result c.restored.ensures.shown
+    each_names g.D.Disk c.in-Some.root c.args.limits o (subst IsWholeIn c.in-Some.is c.requires.whole).1 (is ∙ ap root_in c.in-Some.is) c.restored.result c.restored.ensures.shown
 
 pub returns-in-Ok-clause-content : goal.returns-in-Ok-clause-content
 returns-in-Ok-clause-content g c honest o is has = c.in-Ok.ensures.content ∙ ap (λ (p : Option Checkpoint). start_of p) (sym (no_root o (is ∙ ap root_in c.in-None.is)))
@@ -135,8 +137,8 @@ returns-in-Ok-clause-stands g c honest = (None, sym (ap root_in c.in-None.is), t
 
 pub returns-in-Err-clause-full : goal.returns-in-Err-clause-full
 returns-in-Err-clause-full g c =
-    let sets = c.args.caps.sets in
-    let slots = c.args.caps.slots in
+    let sets = c.args.limits.sets in
+    let slots = c.args.limits.slots in
     subst (λ (o : Option Parts). IsTooFew sets slots o OutOfMemory) (sym (ap root_in c.in-None.is)) (memory_is_not_room sets slots)
 
 pub returns-in-Err-clause-device : goal.returns-in-Err-clause-device
@@ -145,7 +147,7 @@ returns-in-Err-clause-device g c = ap (λ (f : SlotFile g.row.D.Denot). g.D.Disk
 pub returns-in-Err-clause-any_moment : goal.returns-in-Err-clause-any_moment
 returns-in-Err-clause-any_moment g c =
     let file = c.args.file in
-    subst (λ (f : SlotFile g.row.D.Denot). LeavesOld g.D.Disk (disk_of file) (disk_of f)) (sym c.in-Err.ensures.handed_back) (same g.D.Disk (disk_of file))
+    subst (λ (f : SlotFile g.row.D.Denot). AddsNoImage g.D.Disk (disk_of file) (disk_of f)) (sym c.in-Err.ensures.handed_back) (same g.D.Disk (disk_of file))
 
 pub returns-in-Some-clause-device : goal.returns-in-Some-clause-device
 returns-in-Some-clause-device g c = c.restored.ensures.device
@@ -153,19 +155,19 @@ returns-in-Some-clause-device g c = c.restored.ensures.device
 pub returns-in-Some-clause-size : goal.returns-in-Some-clause-size
 returns-in-Some-clause-size g c =
     let root = c.in-Some.root in
-    let caps = c.caps_of.result in
-    if_ok (λ d. d ≡ detector_of root caps d.words.file) (HasSize c.args.frames c.args.caps) c.restored.result
+    let caps = c.args.limits in
+    if_ok (λ d. d ≡ detector_of root caps d.words.file) (HasSize c.args.limits) c.restored.result
     (λ d is. record {
-      frames = ap (λ (x : detect.ShownDetector (pool.ShownPool g.row.D.Denot)). x.words.most_frames) is ∙ c.caps_of.ensures.2;
-      slots = ap (λ (x : detect.ShownDetector (pool.ShownPool g.row.D.Denot)). x.words.slots) is ∙ c.caps_of.ensures.1;
-      sets = ap (λ (x : detect.ShownDetector (pool.ShownPool g.row.D.Denot)). x.sets.limit) is ∙ c.caps_of.ensures.0;
+      frames = ap (λ (x : detect.ShownDetector (pool.ShownPool g.row.D.Denot)). x.words.most_frames) is;
+      slots = ap (λ (x : detect.ShownDetector (pool.ShownPool g.row.D.Denot)). x.words.slots) is;
+      sets = ap (λ (x : detect.ShownDetector (pool.ShownPool g.row.D.Denot)). x.sets.limit) is;
     })
     c.restored.ensures.shown
 
 pub returns-in-Some-clause-rests : goal.returns-in-Some-clause-rests
 returns-in-Some-clause-rests g c =
     let root = c.in-Some.root in
-    let caps = c.caps_of.result in
+    let caps = c.args.limits in
     if_ok (λ d. d ≡ detector_of root caps d.words.file) (λ d. IsAtRest d.words) c.restored.result
     (λ d is. subst (λ (x : detect.ShownDetector (pool.ShownPool g.row.D.Denot)). IsAtRest x.words) (sym is) (record { none_waits = refl; frozen = λ page slot names. names }))
     c.restored.ensures.shown

@@ -4,8 +4,8 @@ use Rattle.hg_root.specs.Finding.{root_in}
 use Rattle.hg_root.specs.Pairs.{first_bytes, first_of, second_bytes, second_of}
 use Rattle.hg_root.proofs.Choosing.{newest_of}
 use Rattle.hg_pages.specs.Files as files
-use Rattle.hg_store.proofs.Rooting.{newest_in, of_former}
-use Rattle.hg_store.proofs.recover.standing.Goals as goal
+use Rattle.hg_recovery.proofs.Rooting.{newest_in, of_former}
+use Rattle.hg_recovery.proofs.at_root.standing.Goals as goal
 
 pub returns-in_err-root-clause-damaged : goal.returns-in_err-root-clause-damaged
 returns-in_err-root-clause-damaged g c honest told cp is = c.in_err-root.ensures.damaged honest (search rules) (root_of cp) is.former is.newest

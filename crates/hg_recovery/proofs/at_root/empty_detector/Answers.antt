@@ -1,10 +1,10 @@
-use Rattle.std.proofs.Common.{◌≡◌, ◌∙◌, length, refl, sym, ap, subst, rules}
+use Rattle.std.proofs.Common.{◌∙◌, length, refl, sym, ap, subst}
 use Rattle.hg_pool.specs.Kept.{IsFaithful}
 use Rattle.hg_sets.specs.Interning.{Table}
 use Rattle.hg_pool.specs.Shown as pool
-use Rattle.hg_store.specs.Recovering.{IsAtRest}
-use Rattle.hg_store.proofs.Making.{empty_faithful}
-use Rattle.hg_store.proofs.create.empty_detector.Goals as goal
+use Rattle.hg_recovery.specs.Detectors.{IsAtRest}
+use Rattle.hg_recovery.proofs.Detectors.{empty_faithful}
+use Rattle.hg_recovery.proofs.at_root.empty_detector.Goals as goal
 
 pub returns-in-Ok-clause-faithful : goal.returns-in-Ok-clause-faithful
 returns-in-Ok-clause-faithful g c honest =
@@ -12,7 +12,7 @@ returns-in-Ok-clause-faithful g c honest =
     let n = length d.segments in
     let m = length d.sets.sets in
     subst (λ (p : pool.ShownPool g.row.D.Denot). IsFaithful g.D.Disk p n m) (sym (c.in-Ok.ensures.words ∙ c.in_ok-pool.ensures.pool))
-    (empty_faithful g.D.Disk c.args.file c.new.result.entries _ c.args.caps.slots c.new.ensures honest n m)
+    (empty_faithful g.D.Disk c.args.file c.new.result.entries _ c.args.limits.slots c.new.ensures honest n m)
 
 pub returns-in-Err-clause-handed_back : goal.returns-in-Err-clause-handed_back
 returns-in-Err-clause-handed_back g c = c.into_disks.ensures ∙ ap (λ (p : pool.ShownPool g.row.D.Denot). p.file) (c.in-Err.ensures.handed_back ∙ c.in_ok-pool.ensures.pool)
@@ -20,9 +20,8 @@ returns-in-Err-clause-handed_back g c = c.into_disks.ensures ∙ ap (λ (p : poo
 pub returns-in-Ok-clause-size : goal.returns-in-Ok-clause-size
 returns-in-Ok-clause-size g c =
     let words = c.in-Ok.ensures.words ∙ c.in_ok-pool.ensures.pool in
-    let most : c.from.result ≡ c.args.frames = search rules in
     record {
-      frames = ap (λ (p : pool.ShownPool g.row.D.Denot). p.most_frames) words ∙ most;
+      frames = ap (λ (p : pool.ShownPool g.row.D.Denot). p.most_frames) words;
       slots = ap (λ (p : pool.ShownPool g.row.D.Denot). p.slots) words;
       sets = ap (λ (t : Table). t.limit) c.in-Ok.ensures.sets;
     }

@@ -8,11 +8,11 @@ use Rattle.hg_root.specs.Newest.{IsNewest}
 use Rattle.hg_root.specs.Pairs.{failures, first_bytes, second_bytes}
 use Rattle.hg_disk.proofs.Staying.{same}
 use Rattle.hg_pool.specs.Maps as pools
-use Rattle.hg_store.specs.Images.{LeavesOld}
-use Rattle.hg_store.specs.Recovering.{CountedBy}
-use Rattle.hg_store.proofs.Rooting.{no_room, rooted_so, settled_reads}
-use Rattle.hg_store.proofs.Telling.{counted_beside}
-use Rattle.hg_store.proofs.recover.rooted.Goals as goal
+use Rattle.hg_disk.specs.Moments.{AddsNoImage}
+use Rattle.hg_recovery.specs.Answers.{CountedBy}
+use Rattle.hg_recovery.proofs.Rooting.{no_room, rooted_so, settled_reads}
+use Rattle.hg_recovery.proofs.Telling.{counted_beside}
+use Rattle.hg_recovery.proofs.at_root.rooted.Goals as goal
 
 pub returns-in-Err-clause-damaged : goal.returns-in-Err-clause-damaged
 returns-in-Err-clause-damaged g c honest told cp is =
@@ -30,7 +30,7 @@ returns-in-Ok-detector_of-clause-rooted g c honest one other bytes first second 
     ap (λ (b : Bool). cond b (g.D.Disk.state file.before.value).contents (g.D.Disk.state file.disk).contents) c.attach-file.ensures.works
     ∙ ap (λ d. (g.D.Disk.state d).contents) c.attach-file.ensures.disk ∙ settled_reads bytes _ at in
     let read : (g.D.Disk.state (files.disk_of file)).contents ≡ bytes = ap (λ d. (g.D.Disk.state d).contents) c.attach-file.ensures.disk ∙ settled_reads bytes _ at in
-    rooted_so g.D.Disk c.args.caps.sets one other bytes found st.0 made.0 c.in-Ok-detector_of.detector c.standing.new.roots c.number_of-number.result made.1 st.2
+    rooted_so g.D.Disk c.args.limits.sets one other bytes found st.0 made.0 c.in-Ok-detector_of.detector c.standing.new.roots c.number_of-number.result made.1 st.2
     (subst (λ (l : List ℕ). IfSome st.0 (LieWithin l)) read st.3)
     (subst (λ (l : List ℕ). IfSome made.0 (HasPages l)) known made.2)
     (λ root f is. c.in-Ok.ensures.only honest root f (subst (λ (l : List ℕ). IsNewest root f l (second_bytes g.D.Disk roots)) (sym (settled_reads one _ first)) (subst (λ (l : List ℕ). IsNewest root f one l) (sym (settled_reads other _ second)) is)))
@@ -51,7 +51,7 @@ returns-in-Err-detector_of-clause-damaged g c honest told cp is =
 pub returns-in-Err-detector_of-clause-full : goal.returns-in-Err-detector_of-clause-full
 returns-in-Err-detector_of-clause-full g c honest =
     let st = c.in-Ok.ensures.found honest in
-    no_room c.args.caps.sets c.args.caps.slots (first_bytes g.D.Disk c.args.roots) (second_bytes g.D.Disk c.args.roots) (root_in c.in-Ok.found) st.0 _ st.1 c.in-Err-detector_of.ensures.full
+    no_room c.args.limits.sets c.args.limits.slots (first_bytes g.D.Disk c.args.roots) (second_bytes g.D.Disk c.args.roots) (root_in c.in-Ok.found) st.0 _ st.1 c.in-Err-detector_of.ensures.full
 
 pub returns-in-Err-clause-state : goal.returns-in-Err-clause-state
 returns-in-Err-clause-state g c = ap (λ d. g.D.Disk.state d) (c.into_disks.ensures ∙ c.attach-file.ensures.disk)
@@ -59,7 +59,7 @@ returns-in-Err-clause-state g c = ap (λ d. g.D.Disk.state d) (c.into_disks.ensu
 pub returns-in-Err-clause-any_moment : goal.returns-in-Err-clause-any_moment
 returns-in-Err-clause-any_moment g c =
     let slots = c.args.slots in
-    subst (λ d. LeavesOld g.D.Disk slots d) (sym (c.into_disks.ensures ∙ c.attach-file.ensures.disk)) (same g.D.Disk slots)
+    subst (λ d. AddsNoImage g.D.Disk slots d) (sym (c.into_disks.ensures ∙ c.attach-file.ensures.disk)) (same g.D.Disk slots)
 
 pub returns-in-Err-clause-device : goal.returns-in-Err-clause-device
 returns-in-Err-clause-device g c =
@@ -73,7 +73,7 @@ returns-in-Ok-detector_of-clause-state g c = c.in-Ok-detector_of.ensures.state �
 
 pub returns-in-Ok-detector_of-clause-any_moment : goal.returns-in-Ok-detector_of-clause-any_moment
 returns-in-Ok-detector_of-clause-any_moment g c =
-    subst (λ d. LeavesOld g.D.Disk d (pools.disk_of c.in-Ok-detector_of.detector.words)) c.attach-file.ensures.disk c.in-Ok-detector_of.ensures.any_moment
+    subst (λ d. AddsNoImage g.D.Disk d (pools.disk_of c.in-Ok-detector_of.detector.words)) c.attach-file.ensures.disk c.in-Ok-detector_of.ensures.any_moment
 
 pub returns-in-Ok-detector_of-clause-device : goal.returns-in-Ok-detector_of-clause-device
 returns-in-Ok-detector_of-clause-device g c =
