@@ -3,6 +3,7 @@
 ghost use Rattle.std.specs.Prelude.{◌≤◌};
 ghost use Rattle.hg_detect.specs.Memory.{IsWhole};
 
+use crate::tests::merging::is;
 use crate::tests::own::Own;
 use crate::tests::shards::{
     BOTH_READ, REFUSED, accepted_of, judge_whole, named_of, new_whole, numbered,
@@ -12,6 +13,7 @@ use hg_detect::memory::MemoryDetector;
 use hg_model::event::Named;
 use hg_model::verdict::Refusal;
 use hg_sets::MOST_SETS;
+use hg_shards::cursor::Cursor;
 use hg_shards::judge::Judge;
 use hg_shards::shards::{Cause, Stop};
 use std::alloc::{AllocError, Global};
@@ -47,6 +49,27 @@ fn stop_of_one(whole: &mut MemoryDetector, batch: &[Named]) -> Option<Stop>
     None
 }
 
+/// Reads the reports of a judge on: they have to be those that one detector keeps from an index on.
+fn compare_reports(
+    rt: &impl Abort,
+    alloc: Global,
+    judge: &Judge,
+    cursor: &mut Cursor,
+    whole: &MemoryDetector,
+    from: usize,
+) -> Result<usize, AllocError> {
+    for index in from..whole.kept() {
+        let wanted = whole.report(alloc, index)?;
+        match judge.next_report(alloc, cursor)? {
+            None => assert!(rt; false, "report {index} is missing"),
+            Some(found) => assert!(rt; is(&found, &wanted), "report {index}"),
+        }
+    }
+    let last = judge.next_report(alloc, cursor)?;
+    assert!(rt; last.is_none(), "there is a report too many");
+    Ok(whole.kept())
+}
+
 /// Offers events by batches of this size to a judge and to one detector, up to the first that is not accepted, and answers whether there
 /// is one.
 fn judge_both_ways<R: Threads + Sync + Abort>(
@@ -63,6 +86,8 @@ fn judge_both_ways<R: Threads + Sync + Abort>(
 {
     let mut whole = new_whole(alloc, most_sets)?;
     let mut judge = new_judge(alloc, count, most_sets)?;
+    let mut cursor = judge.it.cursor(alloc)?;
+    let mut read = 0;
     let mut done = 0;
     for place in 0..events.len() {
         if place < done {
@@ -76,6 +101,7 @@ fn judge_both_ways<R: Threads + Sync + Abort>(
             "{count} parts, {most_sets} sets, from {place} by {size}: {stop:?}"
         );
         assert!(rt; judge.it.events() == whole.it.state().events());
+        read = compare_reports(rt, alloc, &judge.it, &mut cursor, &whole.it, read)?;
         if stop.is_some() {
             return Ok(true);
         }
