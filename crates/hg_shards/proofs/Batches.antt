@@ -189,3 +189,15 @@ pub ready_lent : (n : ℕ) (items olds : List Shard) (events : List Named) (firs
 ready_lent n items olds events first news ready h =
     All-take IsReady n (news ++ drop (length news) items)
     (All-append IsReady news (drop (length news) items) (ready_after olds events first news h) (All-drop IsReady (length news) items ready))
+
+each_length : (olds : List Shard) (events : List Named) (stops : List (Option Stop)) (news : List Shard) → EachTakes olds events stops news → length news ≡ length olds
+each_length [] events [] [] g = refl
+each_length (old ∷ olds) events (stop ∷ stops) (new ∷ news) g = let rest = each_length olds events stops news g.1 in omega (arith, rest)
+each_length [] events [] (new ∷ news) g = absurd g
+each_length [] events (stop ∷ stops) news g = absurd g
+each_length (old ∷ olds) events [] news g = absurd g
+each_length (old ∷ olds) events (stop ∷ stops) [] g = absurd g
+
+-- there are as many shards as before
+pub as_many : (olds : List Shard) (events : List Named) (first : Option Stop) (news : List Shard) → TakeBatch olds events first news → length news ≡ length olds
+as_many olds events first news h = each_length olds events h.stops news h.each

@@ -1,9 +1,9 @@
 -- All parts of a trace as one detector, which judges batches of events.
-use Rattle.std.proofs.Common.{◌≡◌, ◌⊎◌, ⊎_elim, inl, inr, ℕ, zero, suc, ◌+◌, ◌-◌, ◌<◌, ◌≤◌, Bool, true, false, cond, ◌||◌, ◌&&◌, nat_eq, nat_le, nat_lt, List, [], ◌∷◌, ◌++◌, length, take, reverse, filter, get_or, slice_get, Option, Some, None, Result, Ok, Err, refl, sym, ap, ◌∙◌, subst, arith, append_assoc, length-append, ltb-true}
+use Rattle.std.proofs.Common.{◌≡◌, ◌⊎◌, ⊎_elim, inl, inr, ℕ, zero, suc, ◌+◌, ◌-◌, ◌<◌, ◌≤◌, Bool, true, false, cond, ◌&&◌, nat_eq, nat_le, nat_lt, List, [], ◌∷◌, ◌++◌, length, take, reverse, filter, get_or, slice_get, Option, Some, None, Result, Ok, Err, refl, sym, ap, ◌∙◌, subst, arith, append_assoc, length-append, ltb-true}
 use Rattle.std.proofs.Math.Seq.{take-length}
 use Rattle.std.proofs.lemmas.Bool.{false≢true, lt-leb, leb-true, leb-false, le-ltb, ltb-false, lt-ltb, or_left, or_right, or_cases, le-leb}
 use Rattle.std.proofs.lemmas.List.{reverse-append, length-reverse, length-take-le}
-use Rattle.std.proofs.lemmas.Option.{slice_get_within, slice_get-get_or}
+use Rattle.std.proofs.lemmas.Option.{slice_get_within}
 use Rattle.std.specs.Cmp.Lexicographic.{pointwise}
 use Rattle.std.specs.List.{flat_map}
 use Rattle.std.specs.Set.{unique_keys}
@@ -15,7 +15,7 @@ use Rattle.hg_model.specs.declared.verdict.Refusal.TheVariants.{FullSets, OutOfM
 use Rattle.hg_model.specs.declared.verdict.Verdict.{Verdict}
 use Rattle.hg_model.specs.declared.verdict.Verdict.TheVariants as verdicts
 use Rattle.hg_model.specs.Contents.{Content, events_of, summary}
-use Rattle.hg_model.specs.Change.{after, empty_content}
+use Rattle.hg_model.specs.Change.{empty_content}
 use Rattle.hg_model.specs.Verdicts.{IsAccepted, standing_of, verdict}
 use Rattle.hg_model.proofs.Accepted.{no_cause}
 use Rattle.hg_model.proofs.Central.{summary_step}
@@ -24,7 +24,7 @@ use Rattle.hg_sets.specs.declared.fault.SetFault.TheVariants.{Full}
 use Rattle.hg_detect.specs.declared.detector.Answer.{Answer}
 use Rattle.hg_detect.specs.declared.detector.Answer.TheVariants as answers
 use Rattle.hg_detect.specs.Answering.{Applies, is_accepted}
-use Rattle.hg_detect.specs.Making.{Asks, sets_asked}
+use Rattle.hg_detect.specs.Making.{Asks}
 use Rattle.hg_shards.specs.declared.judge.Judge.{Judge}
 use Rattle.hg_shards.specs.declared.shard.Shard.{Shard}
 use Rattle.hg_shards.specs.declared.shards.Cause.{Cause}
@@ -32,8 +32,8 @@ use Rattle.hg_shards.specs.declared.shards.Cause.TheVariants as causes
 use Rattle.hg_shards.specs.declared.shards.Stop.{Stop}
 use Rattle.hg_shards.specs.Asking.{HasSets, accessed, anywhere, asked, asked_at_last, has_set, sets_of, size_with}
 use Rattle.hg_shards.specs.Batches.{AllBegin, EachTakes, RefusesAs, TakeBatch, TakesBatch, before_stop, cause_of, earlier_stop, first_stop}
-use Rattle.hg_shards.specs.Filling.{AreShardsFrom, AreShardsOf, IsFirstFull, is_found_by}
-use Rattle.hg_shards.specs.Judging.{Accepts, AcceptsAll, AreAllParts, ArePartsFrom, GoesOn, HasJudged, HasStopped, IsAt, IsFullAt, IsPart, Judges, KnowsTrace, LeadsBy, StopsAt, StopsFor}
+use Rattle.hg_shards.specs.Filling.{AreShardsFrom, IsFirstFull, is_found_by}
+use Rattle.hg_shards.specs.Judging.{Accepts, AcceptsAll, AreAllParts, ArePartsFrom, GoesOn, HasJudged, IsAt, IsFullAt, Judges, KnowsTrace, LeadsBy, StopsAt, StopsFor}
 use Rattle.hg_shards.specs.Stopping.{accepted_of, is_for_memory, one_stop, wants_memory}
 use Rattle.hg_shards.specs.Sharding.{AtEachEvent, BeginsFor, Follows, HasMade, LogsOwnSets, own_words, verdict_after}
 use Rattle.hg_shards.proofs.Asking.{sets_are_lem}
@@ -524,7 +524,7 @@ module _ (limit : ℕ) (trace : List Named) (table : Table) (events : List Named
           next = by.next;
           is_there = by.is_there;
           stops = stop_for events trace limit stop by done.filled done.sets not;
-          stopped = record { trace = with_events stop.place; content = refl; judged = judged_at stop.place le counts };
+          reports = record { trace = with_events stop.place; content = refl; judged = judged_at stop.place le counts };
         }
 
     -- the one table is full before a shard stops
@@ -551,7 +551,7 @@ module _ (limit : ℕ) (trace : List Named) (table : Table) (events : List Named
             full_at limit next.0 (with_events m) done.filled done.sets (subst IsAccepted onto (ok_at (m + 1) le))
                 (subst (λ (t : List Named). limit < size_with (asked anywhere (events_of t))) onto many),
           );
-          stopped = record { trace = with_events m; content = refl; judged = judged_at m less counts };
+          reports = record { trace = with_events m; content = refl; judged = judged_at m less counts };
         }
 
     module _ (before : ℕ) (is_before : before ≡ length trace) where

@@ -22,6 +22,7 @@ mod Offering
 mod Together
 mod Filling
 mod Batches
+mod Reading
 mod Judging
 mod Summaries
 mod Rows

@@ -39,7 +39,7 @@ map_numbers f g a (suc n) same = λ i. same a (omega arith) i ∷ map_numbers f 
 
 -- ---- the front of a list and what comes behind it
 
-rises_front : (m : ℕ) (reports : List Report) → Rises reports → Rises (take m reports)
+pub rises_front : (m : ℕ) (reports : List Report) → Rises reports → Rises (take m reports)
 rises_front zero reports h = tt
 rises_front (suc m) [] h = tt
 rises_front (suc m) (r ∷ reports) h = (each_taken (IsBefore r) m reports h.0, rises_front m reports h.1)
@@ -49,12 +49,12 @@ rises_front (suc m) (r ∷ reports) h = (each_taken (IsBefore r) m reports h.0, 
     each_taken P (suc n) [] k = tt
     each_taken P (suc n) (s ∷ rs) k = (k.0, each_taken P n rs k.1)
 
-each_dropped : (P : Report → Type 0) (n : ℕ) (reports : List Report) → AllByRecursion P reports → AllByRecursion P (drop n reports)
+pub each_dropped : (P : Report → Type 0) (n : ℕ) (reports : List Report) → AllByRecursion P reports → AllByRecursion P (drop n reports)
 each_dropped P zero reports h = h
 each_dropped P (suc n) [] h = tt
 each_dropped P (suc n) (r ∷ reports) h = each_dropped P n reports h.1
 
-each_in_front : (P : Report → Type 0) (n : ℕ) (reports : List Report) → AllByRecursion P reports → AllByRecursion P (take n reports)
+pub each_in_front : (P : Report → Type 0) (n : ℕ) (reports : List Report) → AllByRecursion P reports → AllByRecursion P (take n reports)
 each_in_front P zero reports h = tt
 each_in_front P (suc n) [] h = tt
 each_in_front P (suc n) (r ∷ reports) h = (h.0, each_in_front P n reports h.1)
@@ -69,7 +69,7 @@ take_taken zero xs more none = refl
 take_taken (suc m) [] more none = ap (take (suc m)) (none refl)
 take_taken (suc m) (x ∷ xs) more none = ap (λ rest. x ∷ rest) (take_taken m xs more none)
 
-take_over : (xs ys : List Report) (m : ℕ) → length xs ≤ m → take m (xs ++ ys) ≡ xs ++ take (m - length xs) ys
+pub take_over : (xs ys : List Report) (m : ℕ) → length xs ≤ m → take m (xs ++ ys) ≡ xs ++ take (m - length xs) ys
 take_over [] ys m le = ap (λ n. take n ys) (let e : m ≡ m - 0 = omega arith in e)
 take_over (x ∷ xs) ys zero le = absurd (omega arith)
 take_over (x ∷ xs) ys (suc m) le = ap (λ rest. x ∷ rest) (take_over xs ys m (omega arith) ∙ ap (λ n. xs ++ take n ys) (let e : m - length xs ≡ suc m - suc (length xs) = omega arith in e))
@@ -88,7 +88,7 @@ none_taken : (n : ℕ) (reports : List Report) → reports ≡ [] → take n rep
 none_taken zero reports h = refl
 none_taken (suc n) reports h = ap (take (suc n)) h
 
-flat_same : (f g : ℕ → List Report) → ((k : ℕ) → f k ≡ g k) → (ks : List ℕ) → flat_map f ks ≡ flat_map g ks
+pub flat_same : (f g : ℕ → List Report) → ((k : ℕ) → f k ≡ g k) → (ks : List ℕ) → flat_map f ks ≡ flat_map g ks
 flat_same f g same [] = refl
 flat_same f g same (k ∷ ks) = λ i. same k i ++ flat_same f g same ks i
 

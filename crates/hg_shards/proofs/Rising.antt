@@ -43,12 +43,12 @@ last_rise (e ∷ past) =
     subst Rises (sym (reports_by e past))
     (words_rise (λ w. report_by (e ∷ past) (touch w e) w) (suc (length past)) (λ w. refl) (λ w. refl) 0 (reported_words e past) (from_filter (is_reported (e ∷ past)) 0 (accessed e) (accessed_rise e)))
 
-last_event : (e : Event) (past : List Event) → AllByRecursion (λ r. r.event ≡ suc (length past)) (reports_at_last (e ∷ past))
+pub last_event : (e : Event) (past : List Event) → AllByRecursion (λ r. r.event ≡ suc (length past)) (reports_at_last (e ∷ past))
 last_event e past =
     subst (AllByRecursion (λ (r : Report). r.event ≡ suc (length past))) (sym (reports_by e past))
     (at_event (λ w. report_by (e ∷ past) (touch w e) w) (suc (length past)) (λ w. refl) (λ w. refl) (reported_words e past))
 
-early : (trace : List Event) → AllByRecursion (λ r. r.event ≤ length trace) (all_reports trace)
+pub early : (trace : List Event) → AllByRecursion (λ r. r.event ≤ length trace) (all_reports trace)
 early [] = tt
 early (e ∷ past) =
     each_both (λ (r : Report). r.event ≤ suc (length past)) (all_reports past) (reports_at_last (e ∷ past))

@@ -9,12 +9,15 @@ use Rattle.hg_model.specs.Verdicts.{IsAccepted, standing_of, verdict}
 use Rattle.hg_sets.specs.Interning.{Table}
 use Rattle.hg_sets.specs.declared.fault.SetFault.TheVariants.{Full}
 use Rattle.hg_detect.specs.Making.{Asks, sets_asked}
+use Rattle.hg_model.specs.declared.report.Report.{Report}
+use Rattle.hg_shards.specs.declared.cursor.Cursor.{Cursor}
 use Rattle.hg_shards.specs.declared.judge.Judge.{Judge}
 use Rattle.hg_shards.specs.declared.shard.Shard.{Shard}
 use Rattle.hg_shards.specs.declared.shards.Cause.{Cause}
 use Rattle.hg_shards.specs.declared.shards.Cause.TheVariants as causes
 use Rattle.hg_shards.specs.declared.shards.Stop.{Stop}
 use Rattle.hg_shards.specs.Asking.{HasSets, anywhere, asked}
+use Rattle.hg_shards.specs.Reading.{HasRead, ReadsNext}
 use Rattle.hg_shards.specs.Sharding.{Follows, HasOwnSets}
 
 -- ---- one detector with one table of sets
@@ -75,8 +78,8 @@ pub record IsAt (c : Content) (table : Table) (j : Judge) : Type 0 where
   pub parts : AreAllParts (KnowsTrace j.limit trace) j.shards.shards.items
   pub sets : HasSets j.limit (asked anywhere (events_of trace)) table
 
--- The judge stopped behind the events of this content, of which it has all reports. It can't go on.
-pub record HasStopped (c : Content) (j : Judge) : Type 0 where
+-- The judge has all reports of this content. Some of its shards may have gone further: then it can't go on.
+pub record HasReports (c : Content) (j : Judge) : Type 0 where
   pub trace : List Named
   pub content : c ≡ summary trace
   pub judged : HasJudged trace j
@@ -98,7 +101,7 @@ pub record StopsAt (c : Content) (table : Table) (events : List Named) (stop : S
   pub next : Named
   pub is_there : slice_get events stop.place ≡ Some next
   pub stops : StopsFor last filled next stop.cause
-  pub stopped : HasStopped last new
+  pub reports : HasReports last new
 
 -- what a batch leads to from this content and table
 abbrev pub LeadsBy : Content → Table → List Named → Option Stop → Judge → Type 0
@@ -108,3 +111,21 @@ LeadsBy c table events (Some stop) new = StopsAt c table events stop new
 -- A batch is offered to a judge: what one detector would answer where the judge stands is answered.
 abbrev pub Judges : Judge → List Named → Option Stop → Judge → Type 0
 Judges old events stop new = (c : Content) (table : Table) → IsAt c table old → LeadsBy c table events stop new
+
+-- ---- the reports
+
+-- how many parts a judge has
+abbrev pub parts_of : Judge → ℕ
+parts_of j = length j.shards.shards.items
+
+-- A report is read of shards that follow a trace of so many events, or go further: the next one of those that one detector keeps.
+abbrev pub ReadsFrom : List Shard → ℕ → Cursor → Option Report → Cursor → Type 0
+ReadsFrom shards last old found new =
+    (trace : List Named) (front rest : List Report) → last ≡ length trace → AreAllParts (GoesOn trace) shards → HasRead (length shards) front old
+    → (summary trace).reports ≡ front ++ rest → ReadsNext (length shards) front rest found new
+
+-- The same of a judge, whose content has the reports that were read, and these behind them.
+abbrev pub NextReport : Judge → Cursor → Option Report → Cursor → Type 0
+NextReport j old found new =
+    (c : Content) (front rest : List Report) → HasReports c j → HasRead (parts_of j) front old → c.reports ≡ front ++ rest
+    → ReadsNext (parts_of j) front rest found new

@@ -7,6 +7,7 @@ pub mod Laws
 pub mod Sharding
 pub mod Filling
 pub mod Batches
+pub mod Reading
 pub mod Stopping
 pub mod Judging
 pub mod Readiness

@@ -1,16 +1,19 @@
 //! All parts of a trace as one detector, which judges batches of its events side by side.
 
-ghost use Rattle.std.specs.Prelude.{◌≡◌, ◌≤◌, IfErr, IfOk};
+ghost use Rattle.std.specs.Prelude.{◌≡◌, ◌≤◌, [], IfErr, IfOk};
 ghost use Rattle.hg_model.specs.Change.{empty_content};
 ghost use Rattle.hg_sets.specs.Interning.{first_table};
 ghost use Rattle.hg_sets.specs.declared.table.TheConstants as sets;
+ghost use Rattle.hg_shards.specs.Reading.{HasRead};
 ghost use Rattle.hg_shards.specs.Stopping as spec;
 
+use crate::cursor::{Cursor, new_cursor, read_next};
 use crate::shards::{Cause, Shards, Stop};
 use hg_model::event::Named;
+use hg_model::report::Report;
 use hg_model::verdict::Refusal;
 use hg_sets::MOST_SETS;
-use std::alloc::Global;
+use std::alloc::{AllocError, Global};
 use std::marker::Sync;
 use std::thread::Threads;
 
@@ -67,7 +70,7 @@ pub struct Judge {
 }
 
 impl Judge {
-    ghost use Rattle.hg_shards.specs.Judging.{IsAt, Judges};
+    ghost use Rattle.hg_shards.specs.Judging.{IsAt, Judges, NextReport, parts_of};
 
     /// The judge of an empty trace by `count` parts, with at most `most_sets` sets of threads and of locks: 1 to 262,144. The one
     /// refusal is `OutOfMemory`.
@@ -94,6 +97,7 @@ impl Judge {
         rt: &T,
         events: &[Named],
     ) -> Result<Option<Stop>, Refusal>
+        ensures parts { parts_of self.new ≡ parts_of self.old }
         ensures judged { IfOk result (λ stop. Judges self.old events.now stop self.new) }
         ensures refusal { IfErr result (λ r. r ≡ Refusal.OutOfMemory) }
     {
@@ -114,5 +118,25 @@ impl Judge {
         ensures { result ≡ self.now.events }
     {
         self.events
+    }
+
+    /// A cursor that has read no report. It takes memory for a number of each part.
+    pub fn cursor(&self, alloc: Global) -> Result<Cursor, AllocError>
+        ensures { IfOk result (HasRead (parts_of self.now) []) }
+    {
+        new_cursor(alloc, self.shards.as_slice().len())
+    }
+
+    /// The next report that one detector keeps, by event and then by word, or None where the cursor has read all of them. Where memory
+    /// was refused the cursor stays.
+    pub fn next_report(
+        &self,
+        alloc: Global,
+        cursor: &mut Cursor,
+    ) -> Result<Option<Report>, AllocError>
+        ensures next { IfOk result (λ found. NextReport self.now cursor.old found cursor.new) }
+        ensures stays { IfErr result (λ e. cursor.new ≡ cursor.old) }
+    {
+        read_next(alloc, self.shards.as_slice(), self.events, cursor)
     }
 }

@@ -38,7 +38,7 @@ impl Place {
 }
 
 /// Whether a list with the first head is to be taken before one with the second. One without a report never is.
-fn wins(head: Option<Place>, other: Option<Place>) -> bool
+pub(crate) fn wins(head: Option<Place>, other: Option<Place>) -> bool
     ensures { result ≡ spec.wins head other }
 {
     match head {

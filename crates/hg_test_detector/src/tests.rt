@@ -1,7 +1,6 @@
 mod cells;
 mod dice;
 mod graph;
-mod judges;
 mod merging;
 mod model;
 mod own;
