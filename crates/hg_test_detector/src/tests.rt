@@ -1,6 +1,7 @@
 mod cells;
 mod dice;
 mod graph;
+mod judges;
 mod merging;
 mod model;
 mod own;

@@ -52,7 +52,7 @@ fn lists_of(
 }
 
 /// Whether two reports are one.
-fn is(found: &Report, wanted: &Report) -> bool {
+pub fn is(found: &Report, wanted: &Report) -> bool {
     let of = (found.event, found.write, found.thread, found.word);
     of == (wanted.event, wanted.write, wanted.thread, wanted.word)
         && found.threads.as_slice() == wanted.threads.as_slice()

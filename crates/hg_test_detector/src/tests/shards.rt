@@ -23,7 +23,7 @@ use std::thread::Threads;
 
 /// An offered event, and what has to be answered.
 #[derive(Clone, Copy)]
-struct Judged {
+pub(crate) struct Judged {
     named: Named,
     answer: Result<Answer, Refusal>,
 }
@@ -51,7 +51,7 @@ fn earlier(one: Option<u64>, other: Option<u64>) -> Option<u64> {
 }
 
 /// One detector of a whole trace.
-fn new_whole(alloc: Global, most_sets: u32) -> Result<Own<MemoryDetector>, Refusal>
+pub(crate) fn new_whole(alloc: Global, most_sets: u32) -> Result<Own<MemoryDetector>, Refusal>
     requires least { 1 ≤ most_sets }
     requires greatest { most_sets ≤ MOST_SETS }
     ensures { IfOk result (λ made. IsWhole made.it) }
@@ -73,7 +73,7 @@ fn name(dice: &mut Dice, whole: &MemoryDetector) -> Named {
 }
 
 /// Offers events that look random to one detector. The answer has all of them, and what it answered.
-fn judge_whole(
+pub(crate) fn judge_whole(
     alloc: Global,
     seed: u64,
     whole: &mut MemoryDetector,
@@ -240,7 +240,7 @@ fn shards_tell_which_event_a_full_table_refuses(rt: HostRuntime) -> Result<(), F
 }
 
 /// The events that were accepted.
-fn accepted_of(alloc: Global, events: &[Judged]) -> Result<Vec<Judged>, AllocError> {
+pub(crate) fn accepted_of(alloc: Global, events: &[Judged]) -> Result<Vec<Judged>, AllocError> {
     let mut accepted = Vec::new(alloc);
     for judged in events {
         if judged.answer == Ok(Answer::Accepted) {
@@ -251,7 +251,7 @@ fn accepted_of(alloc: Global, events: &[Judged]) -> Result<Vec<Judged>, AllocErr
 }
 
 /// The events without their answers.
-fn named_of(alloc: Global, events: &[Judged]) -> Result<Vec<Named>, AllocError> {
+pub(crate) fn named_of(alloc: Global, events: &[Judged]) -> Result<Vec<Named>, AllocError> {
     let mut named = Vec::new(alloc);
     for judged in events {
         named.push(judged.named)?;
@@ -371,7 +371,7 @@ fn shards_take_batches_side_by_side(rt: HostRuntime) -> Result<(), Fail> {
 
 /// Thread 0 starts thread 1 and writes to a word of part 0 and to one of part 1, of two parts. Thread 1 reads both, the first under lock
 /// 7, the second under 7 and 8. So part 0 asks for the sets {0, 1} and {7} at event 5, and part 1 for {0, 1} and {7, 8} at event 7.
-const BOTH_READ: [Event; 7] = [
+pub(crate) const BOTH_READ: [Event; 7] = [
     Event::Fork { p: 0, c: 1 },
     Event::Write(Access {
         t: 0,
@@ -399,7 +399,7 @@ const BOTH_READ: [Event; 7] = [
 
 /// How many sets there may be, and the event that is refused: with the empty set there are three after event 5 and four after event 7.
 /// The tables of both parts have six.
-const REFUSED: [(u32, Option<u64>); 6] = [
+pub(crate) const REFUSED: [(u32, Option<u64>); 6] = [
     (1, Some(5)),
     (2, Some(5)),
     (3, Some(7)),
@@ -418,7 +418,7 @@ fn nth(number: u64, event: Event) -> Named {
 }
 
 /// The events, each of which has to be accepted, numbered from 1.
-fn numbered(alloc: Global, events: &[Event]) -> Result<Vec<Judged>, AllocError> {
+pub(crate) fn numbered(alloc: Global, events: &[Event]) -> Result<Vec<Judged>, AllocError> {
     let mut judged = Vec::new(alloc);
     for (k, event) in events.iter().enumerate() {
         judged.push(Judged {
