@@ -140,7 +140,7 @@ fn with_repeated(
     Ok(repeated)
 }
 
-/// Judges a trace that looks random with room for all its sets, for one less, and for fewer, by batches of one event, of some, and of all.
+/// Judges a trace that looks random with room for all its sets, for one less, and for fewer, by batches of 7 and of 100 events.
 fn fill_tables<R: Threads + Sync + Abort>(rt: &R, alloc: Global, count: u64) -> Result<(), Refusal>
     requires { 1 ≤ count }
 {
@@ -150,7 +150,7 @@ fn fill_tables<R: Threads + Sync + Abort>(rt: &R, alloc: Global, count: u64) -> 
     assert!(rt; 10 < sets && sets <= MOST_SETS);
     let events = named_of(alloc, &accepted_of(alloc, &judged)?)?;
     for limit in [1, sets / 2, sets - 1, sets] {
-        for size in [1, 30, 500] {
+        for size in [7, 100] {
             let stops = judge_both_ways(rt, alloc, count, limit, size, &events)?;
             assert!(rt; stops == (limit < sets), "{limit} of {sets} sets");
         }
@@ -177,7 +177,7 @@ fn refuse_one<R: Threads + Sync + Abort>(rt: &R, alloc: Global, count: u64) -> R
 // A test, since no program judges a trace by parts. What is expected is what one detector answers.
 #[test]
 fn a_judge_answers_as_one_detector(rt: HostRuntime) -> Result<(), Fail> {
-    for count in 1..=4 {
+    for count in 1..=3 {
         fill_tables(&rt, rt.alloc(), count)?;
         refuse_one(&rt, rt.alloc(), count)?;
     }
