@@ -140,7 +140,7 @@ fn with_repeated(
     Ok(repeated)
 }
 
-/// Judges a trace that looks random with room for all its sets, for one less, and for fewer, by batches of 7 and of 100 events.
+/// Judges a trace that looks random with room for all its sets, and for one less.
 fn fill_tables<R: Threads + Sync + Abort>(rt: &R, alloc: Global, count: u64) -> Result<(), Refusal>
     requires { 1 ≤ count }
 {
@@ -149,11 +149,9 @@ fn fill_tables<R: Threads + Sync + Abort>(rt: &R, alloc: Global, count: u64) -> 
     let sets = whole.it.sets().len();
     assert!(rt; 10 < sets && sets <= MOST_SETS);
     let events = named_of(alloc, &accepted_of(alloc, &judged)?)?;
-    for limit in [1, sets / 2, sets - 1, sets] {
-        for size in [7, 100] {
-            let stops = judge_both_ways(rt, alloc, count, limit, size, &events)?;
-            assert!(rt; stops == (limit < sets), "{limit} of {sets} sets");
-        }
+    for limit in [sets - 1, sets] {
+        let stops = judge_both_ways(rt, alloc, count, limit, 50, &events)?;
+        assert!(rt; stops == (limit < sets), "{limit} of {sets} sets");
     }
     Ok(())
 }
@@ -165,11 +163,9 @@ fn refuse_one<R: Threads + Sync + Abort>(rt: &R, alloc: Global, count: u64) -> R
     let mut whole = new_whole(alloc, MOST_SETS)?;
     let judged = judge_whole(alloc, count, &mut whole.it)?;
     let events = named_of(alloc, &accepted_of(alloc, &judged)?)?;
-    for place in [0, 20, 100] {
-        for (most_sets, more) in [(5, 0), (MOST_SETS, 0), (MOST_SETS, 5)] {
-            let repeated = with_repeated(alloc, &events, place, more)?;
-            assert!(rt; judge_both_ways(rt, alloc, count, most_sets, 64, &repeated)?);
-        }
+    for (most_sets, more) in [(5, 0), (MOST_SETS, 0), (MOST_SETS, 5)] {
+        let repeated = with_repeated(alloc, &events, 20, more)?;
+        assert!(rt; judge_both_ways(rt, alloc, count, most_sets, 50, &repeated)?);
     }
     Ok(())
 }
@@ -177,10 +173,8 @@ fn refuse_one<R: Threads + Sync + Abort>(rt: &R, alloc: Global, count: u64) -> R
 // A test, since no program judges a trace by parts. What is expected is what one detector answers.
 #[test]
 fn a_judge_answers_as_one_detector(rt: HostRuntime) -> Result<(), Fail> {
-    for count in 1..=3 {
-        fill_tables(&rt, rt.alloc(), count)?;
-        refuse_one(&rt, rt.alloc(), count)?;
-    }
+    fill_tables(&rt, rt.alloc(), 2)?;
+    refuse_one(&rt, rt.alloc(), 3)?;
     Ok(())
 }
 
