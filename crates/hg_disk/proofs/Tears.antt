@@ -61,7 +61,7 @@ either P true x y p q = p
 either P false x y p q = q
 
 front_call_image : (call : Call) (answer : Answer) (bytes : List ℕ) (left : ℕ) (s : DiskState) (file : List ℕ) → IsImage s s.contents → IsImage s file → IsImage (after_call call answer bytes s) (front_by call answer bytes left s.contents file)
-front_call_image Read answer bytes left s file read is = is
+front_call_image (Read at) answer bytes left s file read is = is
 front_call_image (Write at len) Done bytes left s file read is =
     either (IsImage (after_write at bytes s)) (left == 0) file (overwritten file at (take left bytes)) (image_of_write at bytes s file is) (front_write_image at bytes left s file read is)
 front_call_image (Write at len) Failed bytes left s file read is = failed_write_image at len s file is

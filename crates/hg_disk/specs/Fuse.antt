@@ -46,9 +46,9 @@ on_top (change ∷ changes) earlier = change ∷ earlier changes
 -- The changes after a call. `inner` are the changes of the inner disk. The changes before the call are computed by `stayed`
 -- if the call was refused, and by `earlier` if it was passed on.
 abbrev pub with_call : Call → Answer → ℕ → (List Change → List Change) → (List Change → List Change) → List Change → List Change
-with_call Read Refused size stayed earlier inner = stayed inner
-with_call Read Done size stayed earlier inner = earlier inner
-with_call Read Failed size stayed earlier inner = earlier inner
+with_call (Read at) Refused size stayed earlier inner = stayed inner
+with_call (Read at) Done size stayed earlier inner = earlier inner
+with_call (Read at) Failed size stayed earlier inner = earlier inner
 with_call (Write at len) Refused size stayed earlier inner = Written (min at size) (at + len) ∷ stayed inner
 with_call (Write at len) Done size stayed earlier inner = on_top inner earlier
 with_call (Write at len) Failed size stayed earlier inner = on_top inner earlier

@@ -41,9 +41,9 @@ adds_on_top (change ∷ changes) earlier adds = adds_under change changes (earli
 
 adds_call : (call : Call) (answer : Answer) (size : ℕ) (stayed earlier : List Change → List Change) → ((few : List Change) → Adds few (stayed few)) → ((few : List Change) → Adds few (earlier few))
     → (inner : List Change) → Adds inner (with_call call answer size stayed earlier inner)
-adds_call Read Refused size stayed earlier s e inner = s inner
-adds_call Read Done size stayed earlier s e inner = e inner
-adds_call Read Failed size stayed earlier s e inner = e inner
+adds_call (Read at) Refused size stayed earlier s e inner = s inner
+adds_call (Read at) Done size stayed earlier s e inner = e inner
+adds_call (Read at) Failed size stayed earlier s e inner = e inner
 adds_call (Write at len) Refused size stayed earlier s e inner = adds_change (Written (min at size) (at + len)) inner (stayed inner) (s inner)
 adds_call (Write at len) Done size stayed earlier s e inner = adds_on_top inner earlier e
 adds_call (Write at len) Failed size stayed earlier s e inner = adds_on_top inner earlier e

@@ -17,7 +17,7 @@ after_failed_cut to s = record { contents = s.contents; synced = s.synced; since
 
 -- the state after a call; one that was refused counts as one that failed
 abbrev pub after_call : Call → Answer → List ℕ → DiskState → DiskState
-after_call Read answer bytes s = s
+after_call (Read at) answer bytes s = s
 after_call (Write at len) Done bytes s = after_write at bytes s
 after_call (Write at len) Failed bytes s = after_failed_write at len s
 after_call (Write at len) Refused bytes s = after_failed_write at len s

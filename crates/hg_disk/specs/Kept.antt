@@ -76,7 +76,7 @@ pub failed_cut_image : (to : ℕ) (s : DiskState) (image : List ℕ) → IsImage
 failed_cut_image to s image was = record { clean = changed; long = omega (arith, was.long); kept = λ i lt h. was.kept i (omega (arith, lt)) h }
 
 call_image : (call : Call) (answer : Answer) (bytes : List ℕ) (s : DiskState) → IsImage s s.contents → IsImage (after_call call answer bytes s) (after_call call answer bytes s).contents
-call_image Read answer bytes s was = was
+call_image (Read at) answer bytes s was = was
 call_image (Write at len) Done bytes s was = write_image at bytes s was
 call_image (Write at len) Failed bytes s was = failed_write_image at len s s.contents was
 call_image (Write at len) Refused bytes s was = failed_write_image at len s s.contents was

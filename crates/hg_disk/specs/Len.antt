@@ -10,7 +10,7 @@ abbrev pub len_written : Call → Answer → ℕ
 len_written (Write at len) Done = len
 len_written (Write at len) Failed = 0
 len_written (Write at len) Refused = 0
-len_written Read answer = 0
+len_written (Read at) answer = 0
 len_written (Cut to) answer = 0
 len_written Sync answer = 0
 
@@ -19,6 +19,6 @@ abbrev pub end_written : Call → Answer → ℕ
 end_written (Write at len) Done = at + len
 end_written (Write at len) Failed = 0
 end_written (Write at len) Refused = 0
-end_written Read answer = 0
+end_written (Read at) answer = 0
 end_written (Cut to) answer = 0
 end_written Sync answer = 0

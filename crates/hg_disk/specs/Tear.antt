@@ -28,7 +28,7 @@ left_by (Write at len) Refused bytes n before = before
 left_by Sync Done bytes n before = n
 left_by Sync Failed bytes n before = before
 left_by Sync Refused bytes n before = before
-left_by Read answer bytes n before = before
+left_by (Read at) answer bytes n before = before
 left_by (Cut to) answer bytes n before = before
 
 -- how many of n bytes are left after the writes since the last successful sync
@@ -47,7 +47,7 @@ front_by (Cut to) Refused bytes left read file = file
 front_by Sync Done bytes left read file = read
 front_by Sync Failed bytes left read file = file
 front_by Sync Refused bytes left read file = file
-front_by Read answer bytes left read file = file
+front_by (Read at) answer bytes left read file = file
 
 -- the file at the last sync, then the calls since that took effect, up to n written bytes
 abbrev pub front : ℕ → List ℕ → List Event → List ℕ

@@ -4,8 +4,8 @@ ghost use Rattle.std.specs.Prelude.{◌≡◌};
 /// One of the four calls that can fail, without the bytes that it moved.
 #[derive(Clone, Copy, Debug, PartialEq, Eq)]
 pub enum Call {
-    /// A read.
-    Read,
+    /// A read from the offset `at` on, in bytes.
+    Read { at: u64 },
     /// A write of `len` bytes at the offset `at`, both in bytes.
     Write { at: u64, len: usize },
     /// A cut to a length in bytes.

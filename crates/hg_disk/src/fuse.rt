@@ -135,12 +135,12 @@ impl<D: Disk> Disk for FuseDisk<D> {
             &mut self.calls_left,
             self.stops,
             &mut self.history,
-            Call::Read,
+            Call::Read { at },
         ) {
             return Err(DiskFault);
         }
         let answer = self.inner.read_at(at, buf);
-        self.history.note_answer(Call::Read, &[], answer.is_ok())
+        self.history.note_answer(Call::Read { at }, &[], answer.is_ok())
     }
 
     fn write_at(&mut self, at: u64, bytes: &[u8]) -> Result<(), DiskFault>

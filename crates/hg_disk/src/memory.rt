@@ -163,17 +163,17 @@ impl Disk for MemDisk {
         ensures state { state_of self.new ≡ state_of self.old }
         ensures clock { past_of self.new ≡ state_of self.old ∷ past_of self.old }
         ensures failures { failures_of self.new ≡ counted result (failures_of self.old) }
-        ensures kept { KeepsCall self.old self.new Call.Read result }
+        ensures kept { KeepsCall self.old self.new (Call.Read at) result }
         ensures next { (fails_next self.new ≡ false) × (IsTrue (fails_next self.old) → IsErr result) }
         ensures room { StaysInRoom self.old self.new result }
     {
         let is_sound = !mem::replace(&mut self.fails_next, false);
-        if !self.tape.makes_room(Call::Read) {
+        if !self.tape.makes_room(Call::Read { at }) {
             return Err(DiskFault);
         }
-        let at = at as usize;
-        buf.copy_from_slice(&self.bytes[at..at + buf.len()]);
-        self.tape.keep(Call::Read, &[], is_sound)
+        let from = at as usize;
+        buf.copy_from_slice(&self.bytes[from..from + buf.len()]);
+        self.tape.keep(Call::Read { at }, &[], is_sound)
     }
 
     fn write_at(&mut self, at: u64, bytes: &[u8]) -> Result<(), DiskFault>

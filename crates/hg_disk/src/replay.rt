@@ -59,7 +59,7 @@ impl Replay {
         ensures stands { OnOk result (StandsAfter (event call Answer.Done bytes.now) self.old self.new) }
     {
         match call {
-            Call::Read => Ok(()),
+            Call::Read { .. } => Ok(()),
             Call::Write { at, len } => self.write(at, len, bytes),
             Call::Cut { to } => {
                 self.cut(to);
@@ -104,7 +104,7 @@ impl Replay {
         ensures stands { StandsAfter (event call Answer.Failed []) self.old self.new }
     {
         match call {
-            Call::Read => {}
+            Call::Read { .. } => {}
             Call::Write { at, len } => self.tear.fail_write(&mut self.torn, at, len),
             Call::Cut { to } => self.tear.fail_cut(&mut self.torn, to),
             Call::Sync => {}

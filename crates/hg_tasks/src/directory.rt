@@ -4,7 +4,7 @@ ghost use Rattle.hg_tasks.specs.Opening.{options_for, slash};
 
 use crate::look::LookDisk;
 use crate::scratch::{Scratch, beside_streams};
-use hg_disk::FileDisk;
+use hg_disk::{FileDisk, SystemFile};
 use hg_store::devices::Devices;
 use std::fs::{File, OpenOptions, TryLockError};
 use std::io::ErrorKind;
@@ -139,14 +139,14 @@ fn device(name: &'static str, file: Option<File>, mode: OpenMode) -> Result<File
     ensures { IfErr result (λ f. f.cause ≡ Cause.DeviceFault) }
 {
     let Some(file) = file else {
-        return Ok(FileDisk::missing());
+        return Ok(FileDisk::new(SystemFile::missing()));
     };
     let opened = match mode {
-        OpenMode::Look => FileDisk::for_reading(file),
-        _ => FileDisk::new(file),
+        OpenMode::Look => SystemFile::for_reading(file),
+        _ => SystemFile::new(file),
     };
     match opened {
-        Ok(disk) => Ok(disk),
+        Ok(file) => Ok(FileDisk::new(file)),
         Err(error) => Err(failed(name, error)),
     }
 }

@@ -35,7 +35,7 @@ impl Drop for PoolBench {
 /// A call: `read`, `write:AT,LENGTH`, `cut` or `sync`, and a `!` behind it where it failed.
 fn put_call(told: Answered, out: &mut Text) {
     match told.call {
-        Call::Read => out.put(b" read"),
+        Call::Read { .. } => out.put(b" read"),
         Call::Write { at, len } => {
             out.put_number(b" write:", at);
             out.put_number(b",", len as u64);

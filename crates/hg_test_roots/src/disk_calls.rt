@@ -1,7 +1,7 @@
 //! Calls of a disk in memory and of a file, and the images that a crash may leave of the former.
 
 use crate::stops::{put_image, tears_of};
-use hg_disk::{Disk, DiskFault, FileDisk, MemDisk, Tear};
+use hg_disk::{Disk, DiskFault, FileDisk, MemDisk, SystemFile, Tear};
 use hg_test_kit::digits::bytes_of;
 use hg_test_kit::shelf::disk_of;
 use hg_test_kit::text::Text;
@@ -139,7 +139,7 @@ fn open_file(rt: &HostRuntime, path: &str) -> io::Result<FileDisk> {
         .write(true)
         .create(true)
         .open(rt, path)?;
-    FileDisk::new(file)
+    Ok(FileDisk::new(SystemFile::new(file)?))
 }
 
 /// Makes calls on the file of that name, and tells how long it is then. The name `-` is that of no file.
@@ -147,7 +147,7 @@ pub fn tell_file_disk(rt: &HostRuntime, tokens: &str, out: &mut Text) {
     let (path, calls) = front(tokens);
     out.put(b"file");
     if path == "-" {
-        make_calls(rt.alloc(), FileDisk::missing(), calls, out);
+        make_calls(rt.alloc(), FileDisk::new(SystemFile::missing()), calls, out);
         return;
     }
     match open_file(rt, path) {
