@@ -24,7 +24,7 @@ use hg_model::event::Hold;
 use hg_model::verdict::Refusal;
 use hg_reading::ending::{Ending, ended, hold_stop, status_of_end};
 use hg_reading::sink::Sink;
-use hg_reading::whole::read;
+use hg_reading::whole::read_side_by_side;
 use hg_store::devices::{Caps, Devices};
 use hg_store::store::Store;
 use hg_streams::input::Input;
@@ -37,6 +37,8 @@ use hg_wire::line::AccessLine;
 use hg_wire::reader::Reading;
 use std::alloc::Global;
 use std::io::{Read, Write};
+use std::marker::Sync;
+use std::thread::Threads;
 
 impl<D: Disk, W: Write> Sink<W> for Feeding<D, W> {
     ghost use Rattle.hg_reading.specs.Taking.{AlwaysSettled};
@@ -142,9 +144,11 @@ fn checkpoint_is_due(asked: bool, end: Ending) -> bool
 }
 
 impl<D: Disk, W: Write> Feeding<D, W> {
-    /// Reads a trace text to its end, or up to the line that ends the feeding, and offers its events.
-    fn feed_lines<R: Read>(
+    /// Reads a trace text to its end, or up to the line that ends the feeding, and offers its events. Up to `jobs` threads read the lines.
+    fn feed_lines<T: Threads + Sync, R: Read>(
         &mut self,
+        rt: &T,
+        jobs: usize,
         alloc: Global,
         input: &mut Input<R>,
         output: &mut Output<W>,
@@ -158,7 +162,7 @@ impl<D: Disk, W: Write> Feeding<D, W> {
         ensures cause { Fails ⟦<D as Disk>⟧ false input.old input.new self.old output.old self.new output.new result }
         ensures kept { StaysKept ⟦<D as Disk>⟧ self.old output.old self.new output.new }
     {
-        let stop = read(alloc, input, self, output)?;
+        let stop = read_side_by_side(rt, jobs, alloc, input, self, output)?;
         Ok(ended(stop))
     }
 
@@ -185,8 +189,10 @@ impl<D: Disk, W: Write> Feeding<D, W> {
     }
 
     /// Feeds a trace text to the store, with all that is printed of it.
-    fn feed_store<R: Read>(
+    fn feed_store<T: Threads + Sync, R: Read>(
         &mut self,
+        rt: &T,
+        jobs: usize,
         alloc: Global,
         asked: bool,
         input: &mut Input<R>,
@@ -203,7 +209,7 @@ impl<D: Disk, W: Write> Feeding<D, W> {
     {
         let last = self.store.last(self.fed.source)?;
         print_number(b"resume ", last, output)?;
-        let end = self.feed_lines(alloc, input, output)?;
+        let end = self.feed_lines(rt, jobs, alloc, input, output)?;
         self.acknowledge(output)?;
         let is_made = checkpoint_is_due(asked, end);
         self.checkpoint_if_due(alloc, is_made, output)?;
@@ -214,7 +220,8 @@ impl<D: Disk, W: Write> Feeding<D, W> {
 }
 
 /// Recovers a store, feeds a trace text to it, and hands its devices back, with the moments since its opening.
-fn recover_and_feed<D: Disk, R: Read, W: Write>(
+fn recover_and_feed<T: Threads + Sync, D: Disk, R: Read, W: Write>(
+    rt: &T,
     alloc: Global,
     devices: Devices<D>,
     settings: FeedSettings,
@@ -241,7 +248,8 @@ fn recover_and_feed<D: Disk, R: Read, W: Write>(
                 fed,
                 moments,
             };
-            let end = feeding.feed_store(alloc, settings.checkpoint, input, output);
+            let end =
+                feeding.feed_store(rt, settings.jobs, alloc, settings.checkpoint, input, output);
             let Feeding {
                 store,
                 fed: _,
@@ -267,9 +275,12 @@ fn recover_and_feed<D: Disk, R: Read, W: Write>(
 /// Whatever the status, a crash at any moment of the call loses no event that an `ack` written by then counts. The moments in the
 /// outcome show it: the first is the opening of the store, and one comes after each step of the store. A checkpoint changes no content.
 ///
+/// Up to `jobs` threads read the lines of large pieces; what is done and printed never depends on how many.
+///
 /// At each moment the store has the frames that were asked for, and the greatest number of slots. Where no checkpoint is due, the roots are
 /// called to open the store, four times each at most, and not after that.
-pub fn feed<D: Disk, R: Read, W: Write, V: Write>(
+pub fn feed<T: Threads + Sync, D: Disk, R: Read, W: Write, V: Write>(
+    rt: &T,
     alloc: Global,
     devices: Devices<D>,
     settings: FeedSettings,
@@ -282,6 +293,7 @@ pub fn feed<D: Disk, R: Read, W: Write, V: Write>(
     ensures limits { IsTrue D.is_honest → WereOpenWith settings.frames result.moments }
 {
     let (done, devices, moments) = recover_and_feed(
+        rt,
         alloc,
         devices,
         settings,

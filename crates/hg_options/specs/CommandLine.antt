@@ -129,7 +129,7 @@ abbrev pub reports : App
 reports = with_rule (with_rule (with_rule (with_rule (new_app (codes "reports")) (directory true)) frames) error_exitcode) verbose
 
 abbrev pub feed : App
-feed = with_rule (with_rule (with_rule (with_rule (with_rule (new_app (codes "feed")) (directory true)) source) checkpoint) frames) verbose
+feed = with_rule (with_rule (with_rule (with_rule (with_rule (with_rule (new_app (codes "feed")) (directory true)) source) checkpoint) frames) jobs) verbose
 
 abbrev pub serve : App
 serve = with_rule (with_rule (with_rule (with_rule (with_rule (with_rule (with_rule (with_rule (new_app (codes "serve")) (directory true)) port)

@@ -120,8 +120,8 @@ IsStoreTask name rows store.Create = name ≡ codes "create"
 IsStoreTask name rows (store.Graph verbose) = (name ≡ codes "graph") × IsFlag (codes "verbose") rows verbose
 IsStoreTask name rows (store.Reports frames status verbose) = (name ≡ codes "reports") × AreFrames rows frames × IsErrorExitcode rows status
     × IsFlag (codes "verbose") rows verbose
-IsStoreTask name rows (store.Feed source frames checkpoint verbose) = (name ≡ codes "feed") × IsSource rows source × AreFrames rows frames
-    × IsFlag (codes "checkpoint") rows checkpoint × IsFlag (codes "verbose") rows verbose
+IsStoreTask name rows (store.Feed source frames jobs checkpoint verbose) = (name ≡ codes "feed") × IsSource rows source × AreFrames rows frames
+    × AreJobs rows jobs × IsFlag (codes "checkpoint") rows checkpoint × IsFlag (codes "verbose") rows verbose
 IsStoreTask name rows (store.Serve serving) = (name ≡ codes "serve") × AreServing rows serving
 
 -- what the command `name` with these arguments asks for

@@ -189,7 +189,7 @@ fn reports<'a>(alloc: Global) -> Result<Command<'a>, AllocError>
     with_argument(with_status, flag(alloc, VERBOSE_FLAG))
 }
 
-/// `feed DIR SOURCE [--checkpoint] [--frames F] [--verbose]`.
+/// `feed DIR SOURCE [--checkpoint] [--frames F] [--jobs N] [--verbose]`.
 fn feed<'a>(alloc: Global) -> Result<Command<'a>, AllocError>
     ensures app { IfOk result (λ c. app_of c ≡ spec.feed) }
     ensures local { IfOk result HasNoGlobals }
@@ -210,7 +210,8 @@ fn feed<'a>(alloc: Global) -> Result<Command<'a>, AllocError>
     let from_source = with_argument(of_store, source);
     let with_checkpoint = with_argument(from_source, flag(alloc, CHECKPOINT_FLAG));
     let with_frames = with_argument(with_checkpoint, option(alloc, FRAMES_OPTION));
-    with_argument(with_frames, flag(alloc, VERBOSE_FLAG))
+    let with_jobs = with_argument(with_frames, option(alloc, JOBS_OPTION));
+    with_argument(with_jobs, flag(alloc, VERBOSE_FLAG))
 }
 
 /// `serve DIR PORT --connections N --workers W [--frames F] [--every E] [--silence SECONDS] [--verbose]`.

@@ -238,6 +238,7 @@ fn store_task(name: &str, given: &ArgMatches<'_>) -> Result<StoreTask, Misread>
         "feed" => Ok(StoreTask::Feed {
             source: source(given),
             frames: frames(given),
+            jobs: jobs(given),
             checkpoint: is_set(given, CHECKPOINT),
             verbose: is_set(given, VERBOSE),
         }),

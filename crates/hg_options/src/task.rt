@@ -53,6 +53,7 @@ pub enum StoreTask {
     Feed {
         source: Source,
         frames: Frames,
+        jobs: Jobs,
         checkpoint: bool,
         verbose: bool,
     },

@@ -1,6 +1,7 @@
 //! Writing frames.
 
 ghost use Rattle.std.specs.Prelude.{◌≡◌, ◌≤◌, ◌<◌, ◌^◌, ◌+◌, ◌++◌, ◌∷◌, ℕ, List, [], length, OnOk, OnErr};
+ghost use Rattle.std.specs.Int.{w64, to_be_bytes};
 ghost use Rattle.std.specs.List.{AllByRecursion};
 ghost use Rattle.hg_protocol.specs.declared.reply.TheConstants.{MOST_REPLY_LINE};
 ghost use Rattle.hg_model.specs.ThreadSets.{IsThreadSet};
@@ -91,14 +92,35 @@ fn put_numbered(number: u64, event: &Event, out: &mut Vec<u8>) -> Result<(), All
     put
 }
 
+/// Writes a number into its eight bytes: one write, since they are an array.
+#[inline(always)]
+fn write_number(place: &mut [u8], number: u64)
+    requires { length place.old ≡ 8 }
+    ensures { place.new ≡ to_be_bytes w64 number }
+{
+    let Some(digits) = place.as_mut_array::<8>() else {
+        unreachable!()
+    };
+    *digits = number.to_be_bytes();
+}
+
+/// The frame of a kind and a number.
+#[inline(always)]
+fn number_frame(kind: u8, number: u64) -> [u8; 11]
+    ensures { result ≡ framed (number_body kind number) }
+{
+    let mut frame = [0, 9, kind, 0, 0, 0, 0, 0, 0, 0, 0];
+    write_number(&mut frame[3..11], number);
+    frame
+}
+
 /// Appends a frame of a kind and a number. An `Err` leaves `out` as it was.
 #[inline(always)]
 fn put_number(kind: u8, number: u64, out: &mut Vec<u8>) -> Result<(), AllocError>
     ensures ok { OnOk result (out.new.items ≡ out.old.items ++ framed (number_body kind number)) }
     ensures err { OnErr result (out.new.items ≡ out.old.items) }
 {
-    let n = number.to_be_bytes();
-    out.extend_from_slice(&[0, 9, kind, n[0], n[1], n[2], n[3], n[4], n[5], n[6], n[7]])
+    out.extend_from_slice(&number_frame(kind, number))
 }
 
 /// Appends the frame of a refusal. An `Err` leaves `out` as it was.

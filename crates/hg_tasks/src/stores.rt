@@ -31,6 +31,8 @@ use hg_streams::telling::end_by_fault;
 use hg_verbose::lines::Lines;
 use std::alloc::Global;
 use std::io::Write;
+use std::marker::Sync;
+use std::thread::Threads;
 
 /// The status where a store has no such report.
 const NO_RACE: u8 = 2;
@@ -46,14 +48,15 @@ pub fn create_in(rt: &HostRuntime, directory: &str) -> u8 {
 }
 
 /// Feeds the trace on standard input to the store on these devices, and tells what the last line means.
-fn feed_and_tell(
+fn feed_and_tell<T: Threads + Sync>(
+    threads: &T,
     rt: &HostRuntime,
     devices: Devices<FileDisk>,
     settings: FeedSettings,
     lines: Lines,
 ) -> u8 {
     let mut streams = noted_streams(rt, lines);
-    let outcome = feed(rt.alloc(), devices, settings, &mut streams);
+    let outcome = feed(threads, rt.alloc(), devices, settings, &mut streams);
     let status = outcome.status;
     let Streams {
         input,
@@ -72,17 +75,24 @@ fn feed_and_tell(
 
 /// Feeds the trace on standard input to the store, with a checkpoint at its end where one is asked for, and where `verbose` is set tells
 /// what the last line means. Where there is no memory for a meaning it is left out.
-pub fn feed_in(rt: &HostRuntime, directory: &str, settings: FeedSettings, verbose: bool) -> u8 {
+pub fn feed_in<T: Threads + Sync>(
+    threads: &T,
+    rt: &HostRuntime,
+    directory: &str,
+    settings: FeedSettings,
+    verbose: bool,
+) -> u8 {
     let devices = match open_directory(rt, directory, OpenMode::Change) {
         Ok(devices) => devices,
         Err(fault) => return fail_to_open(rt, &fault, verbose),
     };
     if verbose {
         if let Ok(lines) = Lines::new(rt.alloc()) {
-            return feed_and_tell(rt, devices, settings, lines);
+            return feed_and_tell(threads, rt, devices, settings, lines);
         }
     }
-    feed(rt.alloc(), devices, settings, &mut plain_streams(rt)).status
+    let mut streams = plain_streams(rt);
+    feed(threads, rt.alloc(), devices, settings, &mut streams).status
 }
 
 /// Lists a store, and answers the exit status and the devices.

@@ -78,6 +78,12 @@ enum Outcome<'a> {
         jobs: Jobs,
         verbose: bool,
     },
+    /// The trace on standard input is to be fed to a store.
+    Feed {
+        directory: &'a str,
+        settings: FeedSettings,
+        verbose: bool,
+    },
     /// A store is to be served.
     Serve {
         directory: &'a str,
@@ -86,30 +92,37 @@ enum Outcome<'a> {
 }
 
 /// How a store is fed.
-fn feed_settings(source: Source, frames: Frames, checkpoint: bool) -> FeedSettings
+fn feed_settings(source: Source, frames: Frames, jobs: Jobs, checkpoint: bool) -> FeedSettings
     ensures source { result.source ≡ source.number }
     ensures frames { result.frames ≡ frames.pages }
+    ensures jobs { result.jobs ≡ jobs.threads }
     ensures checkpoint { result.checkpoint ≡ checkpoint }
 {
     FeedSettings {
         source: source.number,
         frames: frames.pages,
+        jobs: usize::from(jobs.threads),
         checkpoint,
     }
 }
 
-/// Does a task on the store in a directory, except serving it.
+/// Does a task on the store in a directory, except feeding and serving it.
 fn perform_on_store<'a>(rt: &HostRuntime, directory: &'a str, task: StoreTask) -> Outcome<'a> {
     let status = match task {
         StoreTask::Create => create_in(rt, directory),
         StoreTask::Feed {
             source,
             frames,
+            jobs,
             checkpoint,
             verbose,
         } => {
-            let settings = feed_settings(source, frames, checkpoint);
-            feed_in(rt, directory, settings, verbose)
+            let settings = feed_settings(source, frames, jobs, checkpoint);
+            return Outcome::Feed {
+                directory,
+                settings,
+                verbose,
+            };
         }
         StoreTask::Reports {
             frames,
@@ -205,6 +218,11 @@ fn main(rt: HostRuntime) -> ExitCode {
             jobs,
             verbose,
         } => print_of_input(&rt, printing, jobs, &rt, verbose),
+        Outcome::Feed {
+            directory,
+            settings,
+            verbose,
+        } => feed_in(&rt, &rt, directory, settings, verbose),
         Outcome::Serve { directory, serving } => serve_in(&rt, &rt, directory, serving),
     };
     ExitCode::from(status)
