@@ -1,0 +1,3 @@
+pub mod Sides
+pub mod Halves
+pub mod Laws
