@@ -1,3 +1,0 @@
-pub mod Sides
-pub mod Halves
-pub mod Laws
