@@ -9,13 +9,14 @@ use hg_detect::memory::{MemoryDetector, new_detector};
 use hg_model::event::Hold;
 use hg_model::verdict::Refusal;
 use hg_reading::ending::Ending;
-use hg_reading::sink::Sink;
+use hg_reading::queued::{Queued, offer_all};
+use hg_reading::sink::{QueueSink, Sink};
 use hg_sets::MOST_SETS;
 use hg_streams::listing::Listing;
 use hg_streams::output::Output;
 use hg_wire::line::AccessLine;
 use hg_wire::reader::Reading;
-use std::alloc::Global;
+use std::alloc::{AllocError, Global};
 use std::io::Write;
 
 /// A detector, and what is to be printed of it.
@@ -126,4 +127,21 @@ impl<W: Write> Sink<W> for Checking {
     ghost room = { takes_room };
 
     ghost fewer = { takes_fewer };
+}
+
+impl<W: Write> QueueSink<W> for Checking {
+    type Queue = Vec<Queued>;
+
+    fn new_queue(&self, alloc: Global, places: usize) -> Result<Vec<Queued>, AllocError> {
+        Vec::with_capacity(alloc, places)
+    }
+
+    fn offer_queue(
+        &mut self,
+        lines: u64,
+        queue: &Vec<Queued>,
+        output: &mut Output<W>,
+    ) -> Result<Option<Ending>, Refusal> {
+        offer_all(lines, queue.as_slice(), self, output)
+    }
 }

@@ -6,9 +6,9 @@ use Rattle.hg_model.specs.declared.verdict.Refusal.{Refusal}
 use Rattle.hg_streams.specs.declared.call.WriteCall.{WriteCall}
 use Rattle.hg_wire.specs.declared.reader.Reading.{Reading}
 use Rattle.hg_wire.specs.Streams.{LinesRead, between_lines, ended_from, readings_from}
-use Rattle.hg_reading.specs.declared.queued.Queued.{Queued}
 use Rattle.hg_reading.specs.declared.part.Part.{Part}
-use Rattle.hg_reading.specs.Queueing.{AreHeld, Holds, HoldsAlone, IsQueued, IsOffered, readings_queued}
+use Rattle.hg_reading.specs.Queueing.{AreHeld, Holds, HoldsAlone, IsQueued, IsOffered, Lines, readings_behind}
+use Rattle.hg_reading.proofs.Queueing.{behind_length}
 use Rattle.hg_reading.specs.Taking.{Passes, Pushes, StopsIn, Taking}
 
 module _ {S E : Type 0} (takes : Taking S E) where
@@ -84,12 +84,12 @@ module _ {S E : Type 0} (takes : Taking S E) where
 
   -- ---- what a part holds
 
-  pub part_passes : (p : LinesRead) (a b : S) (at_a at_b : List WriteCall) (text : List ℕ) (queued : List Queued) (lines bytes n : ℕ) (r : Result (Option E) Refusal) → p.begun ≡ [] → n ≡ p.lines → IsQueued text queued lines bytes
-      → IsOffered takes a at_a (readings_queued n queued) r b at_b → r ≡ Ok None → Passes takes p a at_a text (record { lines = p.lines + lines; begun = p.begun }) b at_b (drop bytes text)
-  part_passes p a b at_a at_b text queued lines bytes n r begun is h offered passed =
+  pub part_passes : (p : LinesRead) (a b : S) (at_a at_b : List WriteCall) (text : List ℕ) (held : Lines) (lines bytes n : ℕ) (r : Result (Option E) Refusal) → p.begun ≡ [] → n ≡ p.lines → IsQueued text held lines bytes
+      → IsOffered takes a at_a (readings_behind n held) r b at_b → r ≡ Ok None → Passes takes p a at_a text (record { lines = p.lines + lines; begun = p.begun }) b at_b (drop bytes text)
+  part_passes p a b at_a at_b text held lines bytes n r begun is h offered passed =
       let stands : p ≡ between_lines p.lines = ap (λ x. record { lines = p.lines; begun = x }) begun in
       let after : between_lines (p.lines + lines) ≡ record { lines = p.lines + lines; begun = p.begun } = ap (λ x. record { lines = p.lines + lines; begun = x }) (sym begun) in
-      let all : readings_queued p.lines queued ≡ offered.lines = ap (λ (m : ℕ). readings_queued m queued) (sym is) ∙ (offered.joined ∙ (ap (λ xs. offered.lines ++ xs) (offered.all passed) ∙ append-nil offered.lines)) in
+      let all : readings_behind p.lines held ≡ offered.lines = ap (λ (m : ℕ). readings_behind m held) (sym is) ∙ (offered.joined ∙ (ap (λ xs. offered.lines ++ xs) (offered.all passed) ∙ append-nil offered.lines)) in
       record {
         lines = offered.lines;
         steps = subst (λ x. takes a at_a offered.lines x b at_b) passed offered.steps;
@@ -98,14 +98,14 @@ module _ {S E : Type 0} (takes : Taking S E) where
         ended = λ more. ap (λ (x : LinesRead). ended_from x (text ++ more)) stands ∙ (h.ended p.lines more
             ∙ (ap (λ xs. xs ++ ended_from (between_lines (p.lines + lines)) (drop bytes text ++ more)) all ∙ ap (λ (x : LinesRead). offered.lines ++ ended_from x (drop bytes text ++ more)) after));
         counted = omega (arith, h.counted, h.within, length-drop bytes text);
-        few = omega (arith, h.few p.lines, ap length all, h.within, length-drop bytes text);
+        few = omega (arith, h.few, behind_length p.lines held, ap length all, h.within, length-drop bytes text);
       }
 
-  pub part_stops : (p : LinesRead) (a b : S) (at_a at_b : List WriteCall) (text : List ℕ) (queued : List Queued) (lines bytes n : ℕ) (r : Result (Option E) Refusal) → p.begun ≡ [] → n ≡ p.lines → IsQueued text queued lines bytes
-      → IsOffered takes a at_a (readings_queued n queued) r b at_b → StopsIn takes p a at_a text r b at_b
-  part_stops p a b at_a at_b text queued lines bytes n r begun is h offered =
+  pub part_stops : (p : LinesRead) (a b : S) (at_a at_b : List WriteCall) (text : List ℕ) (held : Lines) (lines bytes n : ℕ) (r : Result (Option E) Refusal) → p.begun ≡ [] → n ≡ p.lines → IsQueued text held lines bytes
+      → IsOffered takes a at_a (readings_behind n held) r b at_b → StopsIn takes p a at_a text r b at_b
+  part_stops p a b at_a at_b text held lines bytes n r begun is h offered =
       let stands : p ≡ between_lines p.lines = ap (λ x. record { lines = p.lines; begun = x }) begun in
-      let all : readings_queued p.lines queued ≡ offered.lines ++ offered.left = ap (λ (m : ℕ). readings_queued m queued) (sym is) ∙ offered.joined in
+      let all : readings_behind p.lines held ≡ offered.lines ++ offered.left = ap (λ (m : ℕ). readings_behind m held) (sym is) ∙ offered.joined in
       record {
         lines = offered.lines;
         steps = offered.steps;
@@ -125,22 +125,23 @@ module _ {S E : Type 0} (takes : Taking S E) where
 
 -- ---- texts that parts hold
 
-pub held_both : (front back : List Part) (first later text : List ℕ) → text ≡ first ++ later → HoldsAlone front first → AreHeld back later → AreHeld (front ++ back) text
-held_both [] back first later text is held h = absurd held
-held_both (part ∷ []) back first later text is held h = (first, later, is, held, h)
-held_both (part ∷ other ∷ parts) back first later text is held h = absurd held
+module _ {Q : Type 0} (held : Q → Lines) where
+  pub held_both : (front back : List (Part Q)) (first later text : List ℕ) → text ≡ first ++ later → HoldsAlone held front first → AreHeld held back later → AreHeld held (front ++ back) text
+  held_both [] back first later text is alone h = absurd alone
+  held_both (part ∷ []) back first later text is alone h = (first, later, is, alone, h)
+  held_both (part ∷ other ∷ parts) back first later text is alone h = absurd alone
 
-pub held_alone : (parts : List Part) (part : Part) (text : List ℕ) → length parts ≡ 1 → Holds part text → HoldsAlone (set parts 0 part) text
-held_alone [] part text one h = absurd (omega (arith, one))
-held_alone (old ∷ []) part text one h = h
-held_alone (old ∷ other ∷ parts) part text one h = absurd (omega (arith, one))
+  pub held_alone : (parts : List (Part Q)) (part : Part Q) (text : List ℕ) → length parts ≡ 1 → Holds held part text → HoldsAlone held (set parts 0 part) text
+  held_alone [] part text one h = absurd (omega (arith, one))
+  held_alone (old ∷ []) part text one h = h
+  held_alone (old ∷ other ∷ parts) part text one h = absurd (omega (arith, one))
 
--- what is left behind the text of the next part
-pub held_next : (part : Part) (parts : List Part) (text first later : List ℕ) → AreHeld (part ∷ parts) text → first ≡ take part.given text → later ≡ drop part.given text → AreHeld parts later
-held_next part parts text first later held front back =
-    let size : length held.0 ≡ part.given = sym held.3.given in
-    let rest : later ≡ held.1 = back ∙ (ap (drop part.given) held.2 ∙ drop_at held.0 held.1 part.given size) in
-    subst (AreHeld parts) (sym rest) held.4
+  -- what is left behind the text of the next part
+  pub held_next : (part : Part Q) (parts : List (Part Q)) (text first later : List ℕ) → AreHeld held (part ∷ parts) text → first ≡ take part.given text → later ≡ drop part.given text → AreHeld held parts later
+  held_next part parts text first later all front back =
+      let size : length all.0 ≡ part.given = sym all.3.given in
+      let rest : later ≡ all.1 = back ∙ (ap (drop part.given) all.2 ∙ drop_at all.0 all.1 part.given size) in
+      subst (AreHeld held parts) (sym rest) all.4
 
 -- nothing stands behind a text
 pub none_behind : (first later : List ℕ) → eqb (length later) 0 ≡ true → first ≡ first ++ later

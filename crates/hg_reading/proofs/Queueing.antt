@@ -1,13 +1,16 @@
 -- What is queued, and what was read of it.
-use Rattle.std.proofs.Common.{◌≡◌, ℕ, ◌+◌, ◌<◌, List, [], ◌∷◌, ◌++◌, length, get_or, drop, Option, None, Result, Ok, sym, ◌∙◌, ap, subst, arith}
-use Rattle.std.proofs.lemmas.List.{append_assoc, append-nil, drop_more, length-append}
+use Rattle.std.proofs.Common.{◌≡◌, ℕ, ◌+◌, ◌<◌, List, [], ◌∷◌, ◌++◌, length, get_or, drop, map, Option, None, Result, Ok, refl, sym, ◌∙◌, ap, subst, arith}
+use Rattle.std.proofs.lemmas.List.{append_assoc, append-nil, drop_more, length-append, length-map, map-append}
 use Rattle.hg_model.specs.declared.event.Event.{Event}
 use Rattle.hg_model.specs.declared.verdict.Refusal.{Refusal}
 use Rattle.hg_streams.specs.declared.call.WriteCall.{WriteCall}
 use Rattle.hg_wire.specs.declared.reader.Reading.{Reading}
+use Rattle.hg_wire.specs.Streams.{numbered_on}
 use Rattle.hg_reading.specs.declared.queued.Queued.{Queued}
-use Rattle.hg_reading.specs.declared.queued.Queued.TheVariants.{Passed}
-use Rattle.hg_reading.specs.Queueing.{IsOffered, lines_by, lines_queued, one, reading_queued, readings_queued}
+use Rattle.hg_model.specs.declared.event.Event.TheVariants as events
+use Rattle.hg_model.specs.Holding.{hold_event}
+use Rattle.hg_reading.specs.declared.queued.Queued.TheVariants.{Passed, Fork, Join, Hold, Access, Alloc, Free, Send, Recv}
+use Rattle.hg_reading.specs.Queueing.{IsEvent, IsLineOf, IsOffered, Lines, access_of, lines_by, lines_of, lines_queued, more_lines, one, reading_queued, readings_behind, readings_queued}
 use Rattle.hg_reading.specs.Taking.{Taking}
 
 -- one more
@@ -25,30 +28,94 @@ readings_more n (k ∷ queued) it =
     ∙ (sym (append_assoc (reading_queued n k) (readings_queued (n + lines_by k) queued) (reading_queued (n + lines_by k + lines_queued queued) it))
     ∙ ap (λ (m : ℕ). (reading_queued n k ++ readings_queued (n + lines_by k) queued) ++ reading_queued m it) place)
 
--- a line with its event, behind no others
-pub queued_alone : (old new : List Queued) (it : Queued) (passed : ℕ) (event : Event) → new ≡ old ++ it ∷ [] → passed ≡ 0 → ((n : ℕ) → reading_queued n it ≡ one n event)
-    → (n : ℕ) → readings_queued n new ≡ readings_queued n old ++ one (n + lines_queued old + passed) event
-queued_alone old new it passed event is none reads n =
-    let place : n + lines_queued old ≡ n + lines_queued old + passed = omega (arith, none) in
-    ap (readings_queued n) is ∙ (readings_more n old it ∙ ap (λ rs. readings_queued n old ++ rs) (reads (n + lines_queued old) ∙ ap (λ (m : ℕ). one m event) place))
+-- ---- numbers
 
-pub lines_alone : (old new : List Queued) (it : Queued) (passed : ℕ) → new ≡ old ++ it ∷ [] → passed ≡ 0 → lines_queued new ≡ lines_queued old + passed + lines_by it
-lines_alone old new it passed is none = ap lines_queued is ∙ (lines_more old it ∙ omega (arith, none))
+one_on : (n m : ℕ) (event : Event) → one (n + m) event ≡ map (numbered_on n) (one m event)
+one_on n m event = let number : n + m + 1 ≡ n + (m + 1) = omega arith in ap (λ (l : ℕ). record { line = l; event = Ok event } ∷ []) number
+
+reading_on : (n m : ℕ) (it : Queued) → reading_queued (n + m) it ≡ map (numbered_on n) (reading_queued m it)
+reading_on n m (Passed count) = refl
+reading_on n m (Fork p c) = one_on n m (events.Fork p c)
+reading_on n m (Join p c) = one_on n m (events.Join p c)
+reading_on n m (Hold kind t l) = one_on n m (hold_event (record { t = t; l = l; kind = kind }))
+reading_on n m (Access len is_write t at) = one_on n m (access_of is_write (record { t = t; at = at; len = len }))
+reading_on n m (Alloc t len at) = one_on n m (events.Alloc (record { t = t; at = at; len = len }))
+reading_on n m (Free t len at) = one_on n m (events.Free (record { t = t; at = at; len = len }))
+reading_on n m (Send t k) = one_on n m (events.Send t k)
+reading_on n m (Recv t k) = one_on n m (events.Recv t k)
+
+readings_on : (n m : ℕ) (queued : List Queued) → readings_queued (n + m) queued ≡ map (numbered_on n) (readings_queued m queued)
+readings_on n m [] = refl
+readings_on n m (it ∷ queued) =
+    let place : n + m + lines_by it ≡ n + (m + lines_by it) = omega arith in
+    let later : readings_queued (n + m + lines_by it) queued ≡ map (numbered_on n) (readings_queued (m + lines_by it) queued) =
+    ap (λ (k : ℕ). readings_queued k queued) place ∙ readings_on n (m + lines_by it) queued in
+    ap (λ rs. rs ++ readings_queued (n + m + lines_by it) queued) (reading_on n m it)
+    ∙ (ap (λ rs. map (numbered_on n) (reading_queued m it) ++ rs) later ∙ sym (map-append (numbered_on n) (reading_queued m it) (readings_queued (m + lines_by it) queued)))
+
+-- what queued items stand for, behind n lines
+pub behind_queued : (n : ℕ) (queued : List Queued) → readings_behind n (lines_of queued) ≡ readings_queued n queued
+behind_queued n queued = let none : n + 0 ≡ n = omega arith in sym (readings_on n 0 queued) ∙ ap (λ (k : ℕ). readings_queued k queued) none
+
+pub behind_length : (n : ℕ) (held : Lines) → length (readings_behind n held) ≡ length held.readings
+behind_length n held = length-map held.readings (numbered_on n)
+
+-- ---- one line more
+
+-- it is a line of an event
+pub is_event : (it : Queued) (event : Event) → IsLineOf it event → IsEvent it
+is_event (Passed count) event reads = absurd (let none : 0 ≡ 1 = ap length (reads 0) in omega (arith, none))
+is_event (Fork p c) event reads = tt
+is_event (Join p c) event reads = tt
+is_event (Hold kind t l) event reads = tt
+is_event (Access len is_write t at) event reads = tt
+is_event (Alloc t len at) event reads = tt
+is_event (Free t len at) event reads = tt
+is_event (Send t k) event reads = tt
+is_event (Recv t k) event reads = tt
+
+event_counts : (it : Queued) → IsEvent it → lines_by it ≡ 1
+event_counts (Passed count) is = absurd is
+event_counts (Fork p c) is = refl
+event_counts (Join p c) is = refl
+event_counts (Hold kind t l) is = refl
+event_counts (Access len is_write t at) is = refl
+event_counts (Alloc t len at) is = refl
+event_counts (Free t len at) is = refl
+event_counts (Send t k) is = refl
+event_counts (Recv t k) is = refl
+
+pub behind_more : (held now : Lines) (passed : ℕ) (it : Queued) (event : Event) → now ≡ more_lines held passed it → IsLineOf it event
+    → (n : ℕ) → readings_behind n now ≡ readings_behind n held ++ one (n + held.count + passed) event
+behind_more held now passed it event is reads n =
+    let place : n + (held.count + passed) ≡ n + held.count + passed = omega arith in
+    ap (readings_behind n) is ∙ (map-append (numbered_on n) held.readings (reading_queued (held.count + passed) it)
+    ∙ ap (λ rs. readings_behind n held ++ rs)
+    (ap (map (numbered_on n)) (reads (held.count + passed)) ∙ (sym (one_on n (held.count + passed) event) ∙ ap (λ (m : ℕ). one m event) place)))
+
+abbrev lines_with : ℕ → List Reading → Lines
+lines_with count readings = record { count = count; readings = readings }
+
+lines_same : (a b : ℕ) (first later : List Reading) → a ≡ b → first ≡ later → lines_with a first ≡ lines_with b later
+lines_same a b first later p q = cc
+
+-- a line with its event, behind no others
+pub queued_alone : (old new : List Queued) (it : Queued) (passed : ℕ) → new ≡ old ++ it ∷ [] → passed ≡ 0 → IsEvent it → lines_of new ≡ more_lines (lines_of old) passed it
+queued_alone old new it passed is none event =
+    let place : 0 + lines_queued old ≡ lines_queued old + passed = omega (arith, none) in
+    lines_same (lines_queued new) (lines_queued old + passed + 1) (readings_queued 0 new) (readings_queued 0 old ++ reading_queued (lines_queued old + passed) it)
+    (omega (arith, ap lines_queued is, lines_more old it, none, event_counts it event))
+    (ap (readings_queued 0) is ∙ (readings_more 0 old it ∙ ap (λ (m : ℕ). readings_queued 0 old ++ reading_queued m it) place))
 
 -- a line with its event, behind lines without one
-pub queued_behind : (old mid new : List Queued) (it : Queued) (passed : ℕ) (event : Event) → mid ≡ old ++ Passed passed ∷ [] → new ≡ mid ++ it ∷ [] → ((n : ℕ) → reading_queued n it ≡ one n event)
-    → (n : ℕ) → readings_queued n new ≡ readings_queued n old ++ one (n + lines_queued old + passed) event
-queued_behind old mid new it passed event first is reads n =
+pub queued_behind : (old mid new : List Queued) (it : Queued) (passed : ℕ) → mid ≡ old ++ Passed passed ∷ [] → new ≡ mid ++ it ∷ [] → IsEvent it → lines_of new ≡ more_lines (lines_of old) passed it
+queued_behind old mid new it passed first is event =
     let count : lines_queued mid ≡ lines_queued old + passed = ap lines_queued first ∙ lines_more old (Passed passed) in
-    let place : n + lines_queued mid ≡ n + lines_queued old + passed = omega (arith, count) in
-    let before : readings_queued n mid ≡ readings_queued n old = ap (readings_queued n) first ∙ (readings_more n old (Passed passed) ∙ append-nil (readings_queued n old)) in
-    ap (readings_queued n) is ∙ (readings_more n mid it ∙ (ap (λ rs. rs ++ reading_queued (n + lines_queued mid) it) before
-    ∙ ap (λ rs. readings_queued n old ++ rs) (reads (n + lines_queued mid) ∙ ap (λ (m : ℕ). one m event) place)))
-
-pub lines_behind : (old mid new : List Queued) (it : Queued) (passed : ℕ) → mid ≡ old ++ Passed passed ∷ [] → new ≡ mid ++ it ∷ [] → lines_queued new ≡ lines_queued old + passed + lines_by it
-lines_behind old mid new it passed first is =
-    let count : lines_queued mid ≡ lines_queued old + passed = ap lines_queued first ∙ lines_more old (Passed passed) in
-    ap lines_queued is ∙ (lines_more mid it ∙ omega (arith, count))
+    let place : 0 + lines_queued mid ≡ lines_queued old + passed = omega (arith, count) in
+    let before : readings_queued 0 mid ≡ readings_queued 0 old = ap (readings_queued 0) first ∙ (readings_more 0 old (Passed passed) ∙ append-nil (readings_queued 0 old)) in
+    lines_same (lines_queued new) (lines_queued old + passed + 1) (readings_queued 0 new) (readings_queued 0 old ++ reading_queued (lines_queued old + passed) it)
+    (omega (arith, ap lines_queued is, lines_more mid it, count, event_counts it event))
+    (ap (readings_queued 0) is ∙ (readings_more 0 mid it ∙ (ap (λ rs. rs ++ reading_queued (0 + lines_queued mid) it) before ∙ ap (λ (m : ℕ). readings_queued 0 old ++ reading_queued m it) place)))
 
 module _ {S E : Type 0} (takes : Taking S E) where
   -- Behind n lines these were offered and passed, and behind m lines those are still to be offered.

@@ -1,5 +1,5 @@
 -- For proofs alone: parsed lines, queued until they are offered.
-use Rattle.std.specs.Prelude.{◌≡◌, ℕ, ◌+◌, ◌≤◌, List, [], ◌∷◌, ◌++◌, length, drop, Bool, Option, None, Result, Ok, ⊤, if◌then◌else◌}
+use Rattle.std.specs.Prelude.{◌≡◌, ℕ, ◌+◌, ◌≤◌, List, [], ◌∷◌, ◌++◌, length, drop, map, Bool, Option, None, Result, Ok, ⊤, if◌then◌else◌}
 use Rattle.hg_model.specs.declared.event.Access.{Access}
 use Rattle.hg_model.specs.declared.event.Event.{Event}
 use Rattle.hg_model.specs.declared.event.Event.TheVariants as events
@@ -8,7 +8,7 @@ use Rattle.hg_model.specs.Holding.{hold_event}
 use Rattle.hg_streams.specs.declared.call.WriteCall.{WriteCall}
 use Rattle.hg_streams.specs.Shown.{Outgoing}
 use Rattle.hg_wire.specs.declared.reader.Reading.{Reading}
-use Rattle.hg_wire.specs.Streams.{GivesNoReading, GivesReading, LinesRead, between_lines, ended_from, readings_from}
+use Rattle.hg_wire.specs.Streams.{GivesNoReading, GivesReading, LinesRead, between_lines, ended_from, numbered_on, readings_from}
 use Rattle.hg_reading.specs.declared.queued.Queued.{Queued}
 use Rattle.hg_reading.specs.declared.queued.Queued.TheVariants.{Passed, Fork, Join, Hold, Access as QueuedAccess, Alloc, Free, Send, Recv}
 use Rattle.hg_reading.specs.declared.part.Next.{Next}
@@ -60,13 +60,31 @@ readings_queued n (it ∷ queued) = reading_queued n it ++ readings_queued (n + 
 abbrev pub IsLineOf : Queued → Event → Type 0
 IsLineOf it event = (n : ℕ) → reading_queued n it ≡ one n event
 
--- The queued items go on with `passed` lines without an event, and the line of an event behind them.
-abbrev pub QueuesLine : List Queued → ℕ → Queued → List Queued → Type 0
-QueuesLine old passed it new = (event : Event) → IsLineOf it event → (n : ℕ) → readings_queued n new ≡ readings_queued n old ++ one (n + lines_queued old + passed) event
+-- The queued item is the line of an event.
+abbrev pub IsEvent : Queued → Type 0
+IsEvent (Passed count) = ⊥
+IsEvent _ = ⊤
 
--- The queued items stand for `passed` lines more, and those of one item behind them.
-abbrev pub CountsLine : List Queued → ℕ → Queued → List Queued → Type 0
-CountsLine old passed it new = lines_queued new ≡ lines_queued old + passed + lines_by it
+-- Lines that were parsed: how many they are, and what was read of them, numbered from the first of them on. Nothing is read of a line that is
+-- empty or a comment, but it counts.
+pub record Lines : Type 0 where
+  pub count : ℕ
+  pub readings : List Reading
+
+abbrev pub no_lines : Lines
+no_lines = record { count = 0; readings = [] }
+
+-- these lines, `passed` more of which nothing was read, and the line of an event
+abbrev pub more_lines : Lines → ℕ → Queued → Lines
+more_lines held passed it = record { count = held.count + passed + 1; readings = held.readings ++ reading_queued (held.count + passed) it }
+
+-- what was read of these lines, behind n others
+abbrev pub readings_behind : ℕ → Lines → List Reading
+readings_behind n held = map (numbered_on n) held.readings
+
+-- the lines that queued items stand for
+abbrev pub lines_of : List Queued → Lines
+lines_of queued = record { count = lines_queued queued; readings = readings_queued 0 queued }
 
 -- Of the lines that were due the sink took a front: all of them, where each was passed.
 pub record IsOffered {S E : Type 0} (takes : Taking S E) (before : S) (at_first : List WriteCall) (due : List Reading) (r : Result (Option E) Refusal) (now : S) (at_last : List WriteCall) : Type 0 where
@@ -76,37 +94,42 @@ pub record IsOffered {S E : Type 0} (takes : Taking S E) (before : S) (at_first 
   pub steps : takes before at_first lines r now at_last
   pub all : r ≡ Ok None → left ≡ []
 
+-- Of these lines, behind n others, the sink took a front, by what it wrote to the output.
+abbrev pub OffersLines : {S E W : Type 0} → Taking S E → ℕ → Lines → S → Outgoing W → Result (Option E) Refusal → S → Outgoing W → Type 0
+OffersLines takes n held before output r now printed = IsOffered takes before output.calls (readings_behind n held) r now printed.calls
+
 -- Of queued items behind n lines the sink took a front, by what it wrote to the output.
 abbrev pub OffersQueued : {S E W : Type 0} → Taking S E → ℕ → List Queued → S → Outgoing W → Result (Option E) Refusal → S → Outgoing W → Type 0
 OffersQueued takes n queued before output r now printed = IsOffered takes before output.calls (readings_queued n queued) r now printed.calls
 
--- The queued items are all readings of the first lines of the text, however many lines stand before it.
-pub record IsQueued (text : List ℕ) (queued : List Queued) (lines bytes : ℕ) : Type 0 where
+-- These are all readings of the first lines of the text, however many lines stand before it.
+pub record IsQueued (text : List ℕ) (held : Lines) (lines bytes : ℕ) : Type 0 where
   pub within : bytes ≤ length text
   pub counted : lines ≤ bytes
-  pub stands_for : lines_queued queued ≤ length text
-  pub few : (n : ℕ) → length (readings_queued n queued) ≤ bytes
-  pub readings : (n : ℕ) (more : List ℕ) → readings_from (between_lines n) (text ++ more) ≡ readings_queued n queued ++ readings_from (between_lines (n + lines)) (drop bytes text ++ more)
-  pub ended : (n : ℕ) (more : List ℕ) → ended_from (between_lines n) (text ++ more) ≡ readings_queued n queued ++ ended_from (between_lines (n + lines)) (drop bytes text ++ more)
+  pub stands_for : held.count ≤ length text
+  pub few : length held.readings ≤ bytes
+  pub readings : (n : ℕ) (more : List ℕ) → readings_from (between_lines n) (text ++ more) ≡ readings_behind n held ++ readings_from (between_lines (n + lines)) (drop bytes text ++ more)
+  pub ended : (n : ℕ) (more : List ℕ) → ended_from (between_lines n) (text ++ more) ≡ readings_behind n held ++ ended_from (between_lines (n + lines)) (drop bytes text ++ more)
 
 -- what the reader found next in the rest of a text
 abbrev pub FindsNext : LinesRead → LinesRead → List ℕ → Next → Type 0
-FindsNext old new rest (next.Line it used) = (event : Event) × IsLineOf it event × (lines_by it ≡ 1) × GivesReading old new rest (record { line = new.lines; event = Ok event }) used
+FindsNext old new rest (next.Line it used) = (event : Event) × IsLineOf it event × GivesReading old new rest (record { line = new.lines; event = Ok event }) used
 FindsNext old new rest Bad = ⊤
 FindsNext old new rest End = GivesNoReading old new rest
 
--- The part holds the queued lines of this text.
-pub record Holds (part : Part) (text : List ℕ) : Type 0 where
-  pub given : part.given ≡ length text
-  pub queued : IsQueued text part.queued.items part.extent.lines part.extent.bytes
+module _ {Q : Type 0} (held : Q → Lines) where
+  -- The part holds the queued lines of this text.
+  pub record Holds (part : Part Q) (text : List ℕ) : Type 0 where
+    pub given : part.given ≡ length text
+    pub queued : IsQueued text (held part.queue) part.extent.lines part.extent.bytes
 
--- There is one part, and it holds the text.
-abbrev pub HoldsAlone : List Part → List ℕ → Type 0
-HoldsAlone [] text = ⊥
-HoldsAlone (part ∷ []) text = Holds part text
-HoldsAlone (part ∷ other ∷ parts) text = ⊥
+  -- There is one part, and it holds the text.
+  abbrev pub HoldsAlone : List (Part Q) → List ℕ → Type 0
+  HoldsAlone [] text = ⊥
+  HoldsAlone (part ∷ []) text = Holds part text
+  HoldsAlone (part ∷ other ∷ parts) text = ⊥
 
--- The parts hold stretches of the text that follow one another from its start on.
-abbrev pub AreHeld : List Part → List ℕ → Type 0
-AreHeld [] text = ⊤
-AreHeld (part ∷ parts) text = (given : List ℕ) × (behind : List ℕ) × (text ≡ given ++ behind) × Holds part given × AreHeld parts behind
+  -- The parts hold stretches of the text that follow one another from its start on.
+  abbrev pub AreHeld : List (Part Q) → List ℕ → Type 0
+  AreHeld [] text = ⊤
+  AreHeld (part ∷ parts) text = (given : List ℕ) × (behind : List ℕ) × (text ≡ given ++ behind) × Holds part given × AreHeld parts behind

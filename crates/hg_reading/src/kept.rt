@@ -4,7 +4,6 @@ ghost use Rattle.std.specs.Prelude.{◌≡◌, ◌+◌, ◌<◌, length, IfErr, 
 ghost use Rattle.hg_wire.specs.Streams.{at_start};
 ghost use Rattle.hg_reading.specs.Whole.{CantKeep, IsKept, TakesText};
 
-use crate::pieces::Alone;
 use crate::sink::Sink;
 use crate::whole::{finish, take_piece};
 use hg_model::verdict::Refusal;
@@ -74,7 +73,7 @@ pub fn offer_text<W, S: Sink<W>>(
     ensures { TakesText S.takes S.settled text.now sink.old output.old.calls result sink.new output.new.calls }
 {
     let mut reader = reader;
-    if let Some(end) = take_piece(&mut Alone, &mut reader, sink, text, output)? {
+    if let Some(end) = take_piece(&mut reader, sink, text, output)? {
         return Ok(Some(end));
     }
     finish(reader, sink, output)

@@ -3,9 +3,11 @@
 #![tactic(auto)]
 
 pub mod ending;
+mod groups;
 pub mod kept;
 pub mod part;
 pub mod pieces;
+pub mod queue;
 pub mod queued;
 mod side_by_side;
 pub mod sink;

@@ -1,10 +1,11 @@
 //! A part of a trace text, parsed before it is offered.
 
-ghost use Rattle.std.specs.Prelude.{◌≡◌, ◌+◌, ◌<◌, ◌≤◌, ◌^◌, [], length, vec_capacity, IfOk};
+ghost use Rattle.std.specs.Prelude.{◌≡◌, ◌+◌, ◌<◌, ◌≤◌, ◌^◌, length, IfOk};
 ghost use Rattle.hg_wire.specs.Streams.{at_start};
-ghost use Rattle.hg_reading.specs.Queueing.{FindsNext, IsQueued};
+ghost use Rattle.hg_reading.specs.Queueing.{FindsNext, IsQueued, no_lines};
 
-use crate::queued::{Queued, queue};
+use crate::queue::Queue;
+use crate::queued::Queued;
 use hg_wire::reader::{EventReader, Taken};
 use std::alloc::{AllocError, Global};
 
@@ -28,10 +29,10 @@ pub enum Next {
 
 /// Parts of texts, one after another in the same memory.
 #[derive(Drop)]
-pub struct Part {
+pub struct Part<Q> {
     reader: EventReader,
     /// What is queued of the text that was parsed last.
-    pub queued: Vec<Queued>,
+    pub queue: Q,
     /// How many bytes that text has.
     pub given: usize,
     /// How far it was parsed: up to a line that is bad, or for which there is no room.
@@ -40,16 +41,16 @@ pub struct Part {
     apart: [u64; 16],
 }
 
-impl Part {
+impl<Q: Queue> Part<Q> {
     ghost use Rattle.hg_reading.specs.Queueing.{Holds};
 
-    /// With room for so many lines.
-    pub fn with_room(alloc: Global, lines: usize) -> Result<Self, AllocError>
-        ensures room { IfOk result (λ part. lines ≤ vec_capacity part.queued) }
+    /// With a queue, whose lines are dropped.
+    pub fn new(alloc: Global, queue: Q) -> Result<Self, AllocError>
+        ensures room { IfOk result (λ part. part.queue ≡ queue) }
     {
         Ok(Part {
             reader: EventReader::new(alloc)?,
-            queued: Vec::with_capacity(alloc, lines)?,
+            queue,
             given: 0,
             extent: Extent { lines: 0, bytes: 0 },
             apart: [0; 16],
@@ -58,20 +59,20 @@ impl Part {
 
     /// Parses a text, and takes no memory.
     pub fn parse(&mut self, text: &[u8])
-        ensures { Holds self.new text.now }
+        ensures { Holds Q.held self.new text.now }
     {
         self.reader.reset();
-        self.queued.clear();
+        self.queue.clear();
         self.given = text.len();
-        self.extent = queue_lines(&mut self.reader, &mut self.queued, text);
+        self.extent = queue_lines(&mut self.reader, &mut self.queue, text);
     }
 }
 
 /// Queues the lines of a text, up to one that is bad or finds no room.
-fn queue_lines(reader: &mut EventReader, queued: &mut Vec<Queued>, text: &[u8]) -> Extent
+fn queue_lines<Q: Queue>(reader: &mut EventReader, queue: &mut Q, text: &[u8]) -> Extent
     requires start { reader.old ≡ at_start }
-    requires none { queued.old.items ≡ [] }
-    ensures { IsQueued text.now queued.new.items result.lines result.bytes }
+    requires none { Q.held queue.old ≡ no_lines }
+    ensures { IsQueued text.now (Q.held queue.new) result.lines result.bytes }
 {
     let mut extent = Extent { lines: 0, bytes: 0 };
     let mut rest = text;
@@ -79,7 +80,7 @@ fn queue_lines(reader: &mut EventReader, queued: &mut Vec<Queued>, text: &[u8]) 
         match next_line(reader, rest) {
             Next::Line { it, used } => {
                 let lines = reader.lines();
-                if !queue(queued, lines - extent.lines - 1, it) {
+                if !queue.push(lines, lines - extent.lines - 1, it) {
                     return extent;
                 }
                 rest = &rest[used..];

@@ -1,10 +1,10 @@
 //! Parsed lines, queued until they are offered.
 
-ghost use Rattle.std.specs.Prelude.{◌≡◌, ℕ, ◌+◌, ◌++◌, ◌∷◌, [], ◌<◌, ◌≤◌, ◌^◌, length, vec_capacity, vec_len};
-ghost use Rattle.std.specs.Bool.{OnFalse, OnTrue};
+ghost use Rattle.std.specs.Prelude.{◌≡◌, ℕ, ◌+◌, ◌-◌, ◌++◌, ◌∷◌, [], ◌<◌, ◌≤◌, ◌^◌, length, vec_capacity, vec_len};
 ghost use Rattle.hg_model.specs.Holding.{hold_event};
-ghost use Rattle.hg_reading.specs.Queueing.{CountsLine, OffersQueued, QueuesLine, lines_by, lines_queued, one, one_access, reading_queued, readings_queued};
+ghost use Rattle.hg_reading.specs.Queueing.{OffersLines, OffersQueued, lines_by, lines_of, lines_queued, one, one_access, reading_queued, readings_queued};
 
+use crate::queue::Queue;
 use crate::sink::Sink;
 use hg_model::event::{Access, Block, Event, Hold, HoldKind};
 use hg_model::verdict::Refusal;
@@ -129,23 +129,31 @@ impl Queued {
     }
 }
 
-/// Appends `passed` lines without an event, and the line `it`. `false` says that there is no room; nothing is appended then.
-#[inline(always)]
-pub fn queue(queued: &mut Vec<Queued>, passed: u64, it: Queued) -> bool
-    ensures readings { OnTrue result (QueuesLine queued.old.items passed it queued.new.items) }
-    ensures lines { OnTrue result (CountsLine queued.old.items passed it queued.new.items) }
-    ensures full { OnFalse result (queued.new.items ≡ queued.old.items) }
-{
-    if queued.capacity() - queued.len() < 2 {
-        return false;
+/// Lines one after another, for sinks that take them so.
+impl Queue for Vec<Queued> {
+    ghost held = { λ queue. lines_of queue.items };
+
+    ghost places = { λ queue. vec_capacity queue };
+
+    ghost room = { λ queue. vec_capacity queue - vec_len queue };
+
+    fn clear(&mut self) {
+        self.clear();
     }
-    if passed == 0 {
-        push(queued, it);
-        return true;
+
+    #[inline(always)]
+    fn push(&mut self, _line: u64, passed: u64, it: Queued) -> bool {
+        if self.capacity() - self.len() < 2 {
+            return false;
+        }
+        if passed == 0 {
+            push(self, it);
+            return true;
+        }
+        push(self, Queued::Passed(passed));
+        push(self, it);
+        true
     }
-    push(queued, Queued::Passed(passed));
-    push(queued, it);
-    true
 }
 
 /// Appends one item, for which there is room.
@@ -159,8 +167,24 @@ fn push(queued: &mut Vec<Queued>, it: Queued)
     queued.push(it).unwrap();
 }
 
-/// Offers the queued lines, which stand behind `lines` others, up to the first that is not passed. `None` says that each was passed.
+/// Offers queued lines, which stand behind `lines` others, one after another, up to the first that is not passed. `None` says that each was
+/// passed.
+#[inline(always)]
 pub fn offer_all<W, S: Sink<W>>(
+    lines: u64,
+    queued: &[Queued],
+    sink: &mut S,
+    output: &mut Output<W>,
+) -> Result<Option<S::End>, Refusal>
+    requires lines { lines + (lines_of queued.now).count < 2 ^ 64 }
+    requires room { S.may_take sink.old (length (lines_of queued.now).readings) }
+    ensures { OffersLines S.takes lines (lines_of queued.now) sink.old output.old result sink.new output.new }
+{
+    offer_each(lines, queued, sink, output)
+}
+
+/// Offers the queued items, by their readings behind `lines` lines.
+fn offer_each<W, S: Sink<W>>(
     lines: u64,
     queued: &[Queued],
     sink: &mut S,

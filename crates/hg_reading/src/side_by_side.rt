@@ -1,14 +1,14 @@
 //! The lines of a piece, parsed by several threads while those in front of them are offered.
 
 ghost use Rattle.std.specs.Prelude.{◌≡◌, ◌+◌, ◌++◌, ◌<◌, ◌≤◌, ◌^◌, Ok, None, length};
-ghost use denote.Param.Send.{IsSync};
+ghost use denote.Param.Send.{IsSend, IsSync};
 ghost use Rattle.hg_reading.specs.Queueing.{AreHeld, Holds, HoldsAlone};
 ghost use Rattle.hg_reading.specs.Taking.{HasNoneLeft, Offers};
 
 use crate::part::Part;
-use crate::pieces::{Alone, Pieces};
-use crate::queued::offer_all;
-use crate::sink::Sink;
+use crate::pieces::push_alone;
+use crate::queue::Queue;
+use crate::sink::QueueSink;
 use hg_model::verdict::Refusal;
 use hg_streams::output::Output;
 use hg_wire::cuts::last_line_end;
@@ -34,75 +34,58 @@ const MOST_JOBS: usize = 16;
 
 /// Pieces are parsed by threads, as many at a time as half of the parts.
 #[derive(Drop)]
-pub(crate) struct SideBySide<'a, T> {
+pub(crate) struct SideBySide<'a, T, Q> {
     rt: &'a T,
-    parts: Vec<Part>,
+    parts: Vec<Part<Q>>,
 }
 
-impl<'a, T: Threads + Sync> SideBySide<'a, T> {
-    /// For `jobs` threads at once, the sink's among them.
-    pub(crate) fn new(rt: &'a T, jobs: usize, alloc: Global) -> Result<Self, AllocError> {
-        let at_once = jobs.clamp(2, MOST_JOBS) - 1;
-        let mut parts = Vec::new(alloc);
-        for _ in 0..2 * at_once {
-            parts.push(Part::with_room(alloc, GROUP / BYTES_A_LINE / at_once)?)?;
-        }
-        Ok(SideBySide { rt, parts })
+/// Pieces for `jobs` threads at once, the sink's among them.
+pub(crate) fn side_by_side<'a, T: Threads + Sync, W, S: QueueSink<W>>(
+    rt: &'a T,
+    jobs: usize,
+    alloc: Global,
+    sink: &S,
+) -> Result<SideBySide<'a, T, S::Queue>, AllocError> {
+    let at_once = jobs.clamp(2, MOST_JOBS) - 1;
+    let mut parts = Vec::new(alloc);
+    for _ in 0..2 * at_once {
+        let queue = sink.new_queue(alloc, GROUP / BYTES_A_LINE / at_once)?;
+        parts.push(Part::new(alloc, queue)?)?;
     }
-}
-
-impl<'a, T: Threads + Sync, W, S: Sink<W>> Pieces<W, S> for SideBySide<'a, T> {
-    ghost may_push = { λ pieces. IsSync T.row };
-
-    fn push(
-        &mut self,
-        reader: &mut EventReader,
-        sink: &mut S,
-        piece: &[u8],
-        output: &mut Output<W>,
-    ) -> Result<Option<S::End>, Refusal> {
-        push_side_by_side(
-            self.rt,
-            reader,
-            sink,
-            piece,
-            output,
-            self.parts.as_mut_slice(),
-        )
-    }
+    Ok(SideBySide { rt, parts })
 }
 
 /// Takes a piece of a trace text, its lines parsed by several threads.
-fn push_side_by_side<T: Threads + Sync, W, S: Sink<W>>(
-    rt: &T,
+pub(crate) fn push_side_by_side<T: Threads + Sync, W, S: QueueSink<W>>(
+    pieces: &mut SideBySide<'_, T, S::Queue>,
     reader: &mut EventReader,
     sink: &mut S,
     piece: &[u8],
     output: &mut Output<W>,
-    parts: &mut [Part],
 ) -> Result<Option<S::End>, Refusal>
     requires lines { reader.old.lines + length piece.now < 2 ^ 64 }
     requires room { S.may_take sink.old (length piece.now) }
     ensures pushes { Offers S.takes reader.old sink.old output.old piece.now result reader.new sink.new output.new }
     ensures none_left { result ≡ Ok None → HasNoneLeft reader.new }
 {
+    let parts = pieces.parts.as_mut_slice();
     if piece.len() < FEW || parts.len() < 2 {
-        return Alone.push(reader, sink, piece, output);
+        return push_alone(reader, sink, piece, output);
     }
     let (lines, last) = piece.split_at(last_line_end(piece));
-    if let Some(end) = offer_lines(rt, lines, reader, sink, output, parts)? {
+    if let Some(end) = offer_lines(pieces.rt, lines, reader, sink, output, parts)? {
         return Ok(Some(end));
     }
-    Alone.push(reader, sink, last, output)
+    push_alone(reader, sink, last, output)
 }
 
 /// What is offered in a turn, and what is parsed meanwhile.
-#[derive(Clone, Copy, Drop)]
-struct Turn<'t> {
+#[derive(Drop)]
+struct Turn<'t, Q> {
     /// The text that is offered.
     due: &'t [u8],
     /// What was parsed of it: its first lines, or none.
-    parts: &'t [Part],
+    parts: &'t [Part<Q>],
     /// The text that is parsed meanwhile.
     upcoming: &'t [u8],
 }
@@ -117,13 +100,13 @@ struct Left<'t> {
 }
 
 /// Offers the lines of a text. The first of them are parsed where they are offered, the others by other threads meanwhile.
-fn offer_lines<T: Threads + Sync, W, S: Sink<W>>(
+fn offer_lines<T: Threads + Sync, W, S: QueueSink<W>>(
     rt: &T,
     text: &[u8],
     reader: &mut EventReader,
     sink: &mut S,
     output: &mut Output<W>,
-    parts: &mut [Part],
+    parts: &mut [Part<S::Queue>],
 ) -> Result<Option<S::End>, Refusal>
     requires lines { reader.old.lines + length text.now < 2 ^ 64 }
     requires room { S.may_take sink.old (length text.now) }
@@ -171,16 +154,16 @@ fn group_behind(offered: &[u8], threads: usize) -> usize
 
 /// Offers the rest of a text by turns. The parts `now` hold the text that is due. While they are offered, threads fill the parts `next`;
 /// then the two halves change places.
-fn offer_groups<T: Threads + Sync, W, S: Sink<W>>(
+fn offer_groups<T: Threads + Sync, W, S: QueueSink<W>>(
     rt: &T,
     left: Left<'_>,
     reader: &mut EventReader,
     sink: &mut S,
     output: &mut Output<W>,
-    now: &mut [Part],
-    next: &mut [Part],
+    now: &mut [Part<S::Queue>],
+    next: &mut [Part<S::Queue>],
 ) -> Result<Option<S::End>, Refusal>
-    requires held { AreHeld now.old left.due.now }
+    requires held { AreHeld S.Queue.held now.old left.due.now }
     requires lines { reader.old.lines + (length left.due.now + length left.rest.now) < 2 ^ 64 }
     requires room { S.may_take sink.old (length left.due.now + length left.rest.now) }
     ensures { Offers S.takes reader.old sink.old output.old (left.entry.due.now ++ left.entry.rest.now) result
@@ -208,45 +191,70 @@ fn offer_groups<T: Threads + Sync, W, S: Sink<W>>(
 
 /// Offers the text that is due in a turn. Meanwhile each part of `next` is filled by a thread of its own.
 #[cycle(beside)]
-fn offer_beside<T: Threads + Sync, W, S: Sink<W>>(
+fn offer_beside<T: Threads + Sync, W, S: QueueSink<W>>(
     rt: &T,
-    turn: Turn<'_>,
+    turn: Turn<'_, S::Queue>,
     reader: &mut EventReader,
     sink: &mut S,
     output: &mut Output<W>,
-    next: &mut [Part],
+    next: &mut [Part<S::Queue>],
 ) -> Result<Option<S::End>, Refusal>
-    requires held { AreHeld turn.parts.now turn.due.now }
+    requires held { AreHeld S.Queue.held turn.parts.now turn.due.now }
     requires lines { reader.old.lines + length turn.due.now < 2 ^ 64 }
     requires room { S.may_take sink.old (length turn.due.now) }
     ensures pushes { Offers S.takes reader.old sink.old output.old turn.entry.due.now result
         reader.new sink.new output.new }
-    ensures held { AreHeld next.new turn.entry.upcoming.now }
+    ensures held { AreHeld S.Queue.held next.new turn.entry.upcoming.now }
+{
+    if next.is_empty() {
+        return offer_parts(turn.parts, turn.due, reader, sink, output);
+    }
+    let threads = next.len();
+    let (part, others) = next.split_at_mut(1);
+    offer_beside_one(rt, turn, threads, reader, sink, output, part, others)
+}
+
+/// As `offer_beside`, with the first of the parts by itself. `threads` threads share what is parsed.
+#[cycle(beside)]
+fn offer_beside_one<T: Threads + Sync, W, S: QueueSink<W>>(
+    rt: &T,
+    turn: Turn<'_, S::Queue>,
+    threads: usize,
+    reader: &mut EventReader,
+    sink: &mut S,
+    output: &mut Output<W>,
+    part: &mut [Part<S::Queue>],
+    others: &mut [Part<S::Queue>],
+) -> Result<Option<S::End>, Refusal>
+    requires threads { 0 < threads }
+    requires one { length part.old ≡ 1 }
+    requires held { AreHeld S.Queue.held turn.parts.now turn.due.now }
+    requires lines { reader.old.lines + length turn.due.now < 2 ^ 64 }
+    requires room { S.may_take sink.old (length turn.due.now) }
+    ensures pushes { Offers S.takes reader.old sink.old output.old turn.entry.due.now result
+        reader.new sink.new output.new }
+    ensures held { AreHeld S.Queue.held (part.new ++ others.new) turn.entry.upcoming.now }
 {
     let Turn {
         due,
         parts,
         upcoming,
     } = turn;
-    if next.is_empty() {
-        return offer_parts(parts, due, reader, sink, output);
-    }
-    let (mine, theirs) = upcoming.split_at(share(upcoming, next.len()));
-    let (part, others) = next.split_at_mut(1);
+    let (mine, theirs) = upcoming.split_at(share(upcoming, threads));
     let (_, answer) = join_mut(
         rt,
         &mut ||
             requires { length part.now ≡ 1 }
-            ensures { HoldsAlone part.exit.now mine.entry.now }
+            ensures { HoldsAlone S.Queue.held part.exit.now mine.entry.now }
         { parse_first(part, mine) },
         &mut || -> Result<Option<S::End>, Refusal>
-            requires crosses { IsSync T.row }
-            requires held { AreHeld parts.now due.now }
+            requires crosses { IsSync T.row × IsSend S.Queue.row }
+            requires held { AreHeld S.Queue.held parts.now due.now }
             requires lines { reader.now.lines + length due.now < 2 ^ 64 }
             requires room { S.may_take sink.now (length due.now) }
             ensures pushes { Offers S.takes reader.entry.now sink.entry.now output.entry.now due.entry.now result
                 reader.exit.now sink.exit.now output.exit.now }
-            ensures held { AreHeld others.exit.now theirs.entry.now }
+            ensures held { AreHeld S.Queue.held others.exit.now theirs.entry.now }
         {
             let turn = Turn {
                 due,
@@ -271,22 +279,22 @@ fn share(text: &[u8], threads: usize) -> usize
 }
 
 /// Parses the text into the one part.
-fn parse_first(parts: &mut [Part], text: &[u8])
+fn parse_first<Q: Queue>(parts: &mut [Part<Q>], text: &[u8])
     requires { length parts.old ≡ 1 }
-    ensures { HoldsAlone parts.new text.now }
+    ensures { HoldsAlone Q.held parts.new text.now }
 {
     parts[0].parse(text);
 }
 
 /// Offers a text up to the first line that is not passed. The parts hold its first lines, one part after another; the rest is parsed here.
-fn offer_parts<W, S: Sink<W>>(
-    parts: &[Part],
+fn offer_parts<W, S: QueueSink<W>>(
+    parts: &[Part<S::Queue>],
     text: &[u8],
     reader: &mut EventReader,
     sink: &mut S,
     output: &mut Output<W>,
 ) -> Result<Option<S::End>, Refusal>
-    requires held { AreHeld parts.now text.now }
+    requires held { AreHeld S.Queue.held parts.now text.now }
     requires lines { reader.old.lines + length text.now < 2 ^ 64 }
     requires room { S.may_take sink.old (length text.now) }
     ensures { Offers S.takes reader.old sink.old output.old text.now result reader.new sink.new output.new }
@@ -299,29 +307,29 @@ fn offer_parts<W, S: Sink<W>>(
         }
         rest = behind;
     }
-    Alone.push(reader, sink, rest, output)
+    push_alone(reader, sink, rest, output)
 }
 
 /// Offers the text of a part: first the lines that the part holds, then the rest, which is parsed here. Within a line all of it is parsed
 /// here.
-fn offer_part<W, S: Sink<W>>(
-    part: &Part,
+fn offer_part<W, S: QueueSink<W>>(
+    part: &Part<S::Queue>,
     text: &[u8],
     reader: &mut EventReader,
     sink: &mut S,
     output: &mut Output<W>,
 ) -> Result<Option<S::End>, Refusal>
-    requires held { Holds part.now text.now }
+    requires held { Holds S.Queue.held part.now text.now }
     requires lines { reader.old.lines + length text.now < 2 ^ 64 }
     requires room { S.may_take sink.old (length text.now) }
     ensures { Offers S.takes reader.old sink.old output.old text.now result reader.new sink.new output.new }
 {
     if !reader.is_between_lines() {
-        return Alone.push(reader, sink, text, output);
+        return push_alone(reader, sink, text, output);
     }
-    if let Some(end) = offer_all(reader.lines(), part.queued.as_slice(), sink, output)? {
+    if let Some(end) = sink.offer_queue(reader.lines(), &part.queue, output)? {
         return Ok(Some(end));
     }
     reader.count_lines(part.extent.lines);
-    Alone.push(reader, sink, &text[part.extent.bytes..], output)
+    push_alone(reader, sink, &text[part.extent.bytes..], output)
 }

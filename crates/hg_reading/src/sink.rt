@@ -1,17 +1,21 @@
 //! Sinks, which take the events of a trace text.
 
-ghost use Rattle.std.specs.Prelude.{◌≡◌, ℕ, ◌+◌, ◌++◌, List, [], ◌∷◌, Option, None, Result, Ok, length};
+ghost use Rattle.std.specs.Prelude.{◌≡◌, ℕ, ◌+◌, ◌++◌, ◌<◌, ◌≤◌, ◌^◌, List, [], ◌∷◌, Option, None, Result, Ok, IfOk, length};
 ghost use Rattle.hg_model.specs.declared.verdict.Refusal.{Refusal as RefusalOf};
 ghost use Rattle.hg_streams.specs.declared.call.WriteCall.{WriteCall};
 ghost use Rattle.hg_wire.specs.Accesses.{event_of};
 ghost use Rattle.hg_wire.specs.declared.reader.Reading.{Reading as ReadingOf};
+ghost use Rattle.hg_reading.specs.Queueing.{OffersLines, no_lines};
 ghost use Rattle.hg_reading.specs.Taking.{access_at, hold_at};
 
+use crate::queue::Queue;
 use hg_model::event::{Event, Hold};
 use hg_model::verdict::Refusal;
 use hg_streams::output::Output;
 use hg_wire::line::AccessLine;
 use hg_wire::reader::Reading;
+use std::alloc::{AllocError, Global};
+use std::marker::Send;
 
 /// The event of a line that is a read or a write.
 #[inline(always)]
@@ -97,4 +101,26 @@ pub trait Sink<W> {
 
     /// Where many lines may be offered, so may fewer.
     ghost fewer: { (s : Self) (n more : ℕ) → may_take s (n + more) → may_take s n };
+}
+
+/// Takes parsed lines by the queue too. Other threads fill its queues.
+pub trait QueueSink<W>: Sink<W> {
+    /// What holds parsed lines until they are offered.
+    type Queue: Queue + Send;
+
+    /// An empty queue with at least so many places.
+    fn new_queue(&self, alloc: Global, places: usize) -> Result<Self::Queue, AllocError>
+        ensures none { IfOk result (λ queue. Self.Queue.held queue ≡ no_lines) }
+        ensures places { IfOk result (λ queue. places ≤ Self.Queue.places queue) };
+
+    /// Offers all lines of a queue, which stand behind `lines` others, up to the first that is not passed. `None` says that each was passed.
+    fn offer_queue(
+        &mut self,
+        lines: u64,
+        queue: &Self::Queue,
+        output: &mut Output<W>,
+    ) -> Result<Option<Self::End>, Refusal>
+        requires lines { lines + (Self.Queue.held queue.now).count < 2 ^ 64 }
+        requires room { Self.may_take self.old (length (Self.Queue.held queue.now).readings) }
+        ensures takes { OffersLines Self.takes lines (Self.Queue.held queue.now) self.old output.old result self.new output.new };
 }

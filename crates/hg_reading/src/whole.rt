@@ -4,9 +4,10 @@ ghost use Rattle.std.specs.Prelude.{◌≡◌, ◌+◌, ◌*◌, ◌<◌, ◌≤
 ghost use Rattle.hg_wire.specs.Streams.{at_start, readings_from};
 ghost use Rattle.hg_reading.specs.Taking.{HasNoneLeft, Offers, Reads};
 
-use crate::pieces::{Alone, Pieces};
-use crate::side_by_side::SideBySide;
-use crate::sink::Sink;
+use crate::groups::read_groups;
+use crate::pieces::push_alone;
+use crate::side_by_side::side_by_side;
+use crate::sink::{QueueSink, Sink};
 use hg_model::verdict::Refusal;
 use hg_streams::input::Input;
 use hg_streams::output::Output;
@@ -22,9 +23,9 @@ const LARGE_PIECE: usize = 2_097_152;
 
 /// A reader, and the buffer for a piece.
 #[derive(Drop)]
-struct Intake {
-    reader: EventReader,
-    buffer: Vec<u8>,
+pub(crate) struct Intake {
+    pub(crate) reader: EventReader,
+    pub(crate) buffer: Vec<u8>,
 }
 
 impl Intake {
@@ -43,22 +44,19 @@ impl Intake {
 
 /// Offers the lines of a piece. Where each was passed, the sink settles.
 #[inline(always)]
-pub(crate) fn take_piece<P: Pieces<W, S>, W, S: Sink<W>>(
-    pieces: &mut P,
+pub(crate) fn take_piece<W, S: Sink<W>>(
     reader: &mut EventReader,
     sink: &mut S,
     piece: &[u8],
     output: &mut Output<W>,
 ) -> Result<Option<S::End>, Refusal>
-    requires may { P.may_push pieces.old }
     requires lines { reader.old.lines + length piece.now < 2 ^ 64 }
     requires room { S.may_take sink.old (length piece.now) }
     ensures pushes { Offers S.takes reader.old sink.old output.old piece.now result reader.new sink.new output.new }
     ensures none_left { result ≡ Ok None → HasNoneLeft reader.new }
     ensures settled { result ≡ Ok None → S.settled sink.new }
-    ensures may { P.may_push pieces.new }
 {
-    match pieces.push(reader, sink, piece, output)? {
+    match push_alone(reader, sink, piece, output)? {
         Some(end) => Ok(Some(end)),
         None => sink.settle(output),
     }
@@ -99,11 +97,11 @@ pub fn read<R: Read, W, S: Sink<W>>(
         sink.old output.old.calls result sink.new output.new.calls }
 {
     let intake = Intake::new(alloc, PIECE_BYTES)?;
-    read_pieces(&mut Alone, intake, input, sink, output)
+    read_pieces(intake, input, sink, output)
 }
 
 /// As `read`, but up to `jobs` threads parse the lines, the calling one among them. What the sink takes does not depend on their number.
-pub fn read_side_by_side<T: Threads + Sync, R: Read, W, S: Sink<W>>(
+pub fn read_side_by_side<T: Threads + Sync, R: Read, W, S: QueueSink<W>>(
     rt: &T,
     jobs: usize,
     alloc: Global,
@@ -119,21 +117,19 @@ pub fn read_side_by_side<T: Threads + Sync, R: Read, W, S: Sink<W>>(
     if jobs < 2 {
         return read(alloc, input, sink, output);
     }
-    let mut pieces = SideBySide::new(rt, jobs, alloc)?;
+    let mut pieces = side_by_side::<T, W, S>(rt, jobs, alloc, sink)?;
     let intake = Intake::new(alloc, LARGE_PIECE)?;
-    read_pieces(&mut pieces, intake, input, sink, output)
+    read_groups(&mut pieces, intake, input, sink, output)
 }
 
 /// Reads a trace text in pieces of at most the size of the buffer.
 #[inline(always)]
-fn read_pieces<P: Pieces<W, S>, R: Read, W, S: Sink<W>>(
-    pieces: &mut P,
+fn read_pieces<R: Read, W, S: Sink<W>>(
     intake: Intake,
     input: &mut Input<R>,
     sink: &mut S,
     output: &mut Output<W>,
 ) -> Result<Option<S::End>, Refusal>
-    requires may { P.may_push pieces.old }
     requires start { intake.reader ≡ at_start }
     requires size { (0 < length intake.buffer.items) × (length intake.buffer.items ≤ 2 ^ 22) }
     requires room { S.may_take sink.old (length intake.buffer.items * 2 ^ 32) }
@@ -155,7 +151,7 @@ fn read_pieces<P: Pieces<W, S>, R: Read, W, S: Sink<W>>(
         if count == 0 {
             return finish(reader, sink, output);
         }
-        if let Some(end) = take_piece(pieces, &mut reader, sink, &bytes[..count], output)? {
+        if let Some(end) = take_piece(&mut reader, sink, &bytes[..count], output)? {
             return Ok(Some(end));
         }
     }

@@ -2,11 +2,18 @@ use Rattle.std.proofs.Common.{◌≡◌, ℕ, ◌+◌, [], ◌∷◌, length, dr
 use Rattle.std.proofs.lemmas.List.{drop_more}
 use Rattle.hg_reading.specs.Queueing.{AreHeld}
 use Rattle.hg_reading.specs.Taking.{Passes, Pushes}
+use Rattle.hg_reading.proofs.Passing.{passes_first}
 use Rattle.hg_reading.proofs.Pushing.{held_next, passes_longer, passes_then, pushes_pass, pushes_then, room_left, stops_front, stops_then}
 use Rattle.hg_reading.proofs.side_by_side.offer_parts.Goals as goal
 
+pub loop-part-init : goal.loop-part-init
+loop-part-init g c = record {
+  passes = passes_first g.S.Sink.takes c.args.reader.now c.args.sink.now c.args.output.now.calls c.args.text.now (g.met.S.Sink.none c.args.sink.now c.args.output.now.calls);
+  held = c.requires.held;
+}
+
 pub offer_part-requires-clause-room : goal.offer_part-requires-clause-room
-offer_part-requires-clause-room g c =
+offer_part-requires-clause-room g c κs within =
     let first = c.split_at.result.0.now in
     let rest = c.loop-part.rest.now in
     let may = room_left g.S.Sink.takes g.S.Sink.may_take g.met.S.Sink.room g.met.S.Sink.fewer c.args.reader.now c.loop-part.reader c.args.sink.now c.loop-part.sink c.args.output.now.calls c.loop-part.output.calls
@@ -48,16 +55,16 @@ loop-part-preserved g c =
           c.args.output.now.calls c.loop-part.output.calls c.offer_part.new.output.calls c.args.text.now rest later c.loop-part.invariant.passes
           (subst (λ x. Passes g.S.Sink.takes c.loop-part.reader c.loop-part.sink c.loop-part.output.calls x c.offer_part.new.reader c.offer_part.new.sink c.offer_part.new.output.calls later)
           (sym c.split_at.ensures.by_index.0) longer);
-      held = held_next c.part-item.result (drop (c.loop-part.part-index + 1) c.args.parts.now) rest first later (subst (λ ps. AreHeld ps rest) parted c.loop-part.invariant.held)
+      held = held_next g.S.Queue.Queue.held c.part-item.result (drop (c.loop-part.part-index + 1) c.args.parts.now) rest first later (subst (λ ps. AreHeld g.S.Queue.Queue.held ps rest) parted c.loop-part.invariant.held)
           c.split_at.ensures.front c.split_at.ensures.back;
     }
 
-pub push-requires-clause-room : goal.push-requires-clause-room
-push-requires-clause-room g c =
+pub push_alone-requires-clause-room : goal.push_alone-requires-clause-room
+push_alone-requires-clause-room g c =
     room_left g.S.Sink.takes g.S.Sink.may_take g.met.S.Sink.room g.met.S.Sink.fewer c.args.reader.now c.loop-part.reader c.args.sink.now c.loop-part.sink c.args.output.now.calls c.loop-part.output.calls
     c.args.text.now c.loop-part.rest.now c.loop-part.invariant.passes c.requires.room
 
 pub returns : goal.returns
 returns g c =
-    pushes_then g.S.Sink.takes g.met.S.Sink.on c.args.reader.now c.loop-part.reader c.push.new.reader c.args.sink.now c.loop-part.sink c.push.new.sink
-    c.args.output.now.calls c.loop-part.output.calls c.push.new.output.calls c.args.text.now c.loop-part.rest.now c.push.result c.loop-part.invariant.passes c.push.ensures.pushes
+    pushes_then g.S.Sink.takes g.met.S.Sink.on c.args.reader.now c.loop-part.reader c.push_alone.new.reader c.args.sink.now c.loop-part.sink c.push_alone.new.sink
+    c.args.output.now.calls c.loop-part.output.calls c.push_alone.new.output.calls c.args.text.now c.loop-part.rest.now c.push_alone.result c.loop-part.invariant.passes c.push_alone.ensures.pushes

@@ -17,8 +17,8 @@ returns-in-Some-clause-pushes g c =
     stops_front g.S.Sink.takes c.args.reader.now c.args.sink.now c.offer_lines.new.sink c.args.output.now.calls c.offer_lines.new.output.calls c.args.piece.now c.split_at.result.0.now c.split_at.result.1.now
     (Ok (Some c.in-Some.end)) c.split_at.ensures.by_index.0 pushed
 
-pub push-requires-2-clause-room : goal.push-requires-2-clause-room
-push-requires-2-clause-room g c =
+pub push_alone-requires-2-clause-room : goal.push_alone-requires-2-clause-room
+push_alone-requires-2-clause-room g c =
     let none : c.in_ok-end.field-0 ≡ None = grind arith in
     let passed = pushes_pass g.S.Sink.takes c.args.reader.now c.args.sink.now c.args.output.now.calls c.split_at.result.0.now (Ok c.in_ok-end.field-0) c.offer_lines.new.reader c.offer_lines.new.sink
     c.offer_lines.new.output.calls (ap Ok none) c.in_ok-end.ensures in
@@ -30,6 +30,6 @@ returns-clause-pushes g c =
     let none : c.in_ok-end.field-0 ≡ None = grind arith in
     let passed = pushes_pass g.S.Sink.takes c.args.reader.now c.args.sink.now c.args.output.now.calls c.split_at.result.0.now (Ok c.in_ok-end.field-0) c.offer_lines.new.reader c.offer_lines.new.sink
     c.offer_lines.new.output.calls (ap Ok none) c.in_ok-end.ensures in
-    pushes_front g.S.Sink.takes g.met.S.Sink.on c.args.reader.now c.offer_lines.new.reader c.push-2.new.reader c.args.sink.now c.offer_lines.new.sink c.push-2.new.sink
-    c.args.output.now.calls c.offer_lines.new.output.calls c.push-2.new.output.calls c.args.piece.now c.split_at.result.0.now c.split_at.result.1.now c.push-2.result c.split_at.ensures.by_index.0 passed
-    c.push-2.ensures.pushes
+    pushes_front g.S.Sink.takes g.met.S.Sink.on c.args.reader.now c.offer_lines.new.reader c.push_alone-2.new.reader c.args.sink.now c.offer_lines.new.sink c.push_alone-2.new.sink
+    c.args.output.now.calls c.offer_lines.new.output.calls c.push_alone-2.new.output.calls c.args.piece.now c.split_at.result.0.now c.split_at.result.1.now c.push_alone-2.result c.split_at.ensures.by_index.0 passed
+    c.push_alone-2.ensures.pushes

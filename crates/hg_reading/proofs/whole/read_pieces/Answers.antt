@@ -45,7 +45,6 @@ loop-reads-init g c =
       room = c.requires.room;
       size = ap length c.as_mut_slice-bytes.ensures.value;
       counted = omega arith;
-      may = c.requires.may;
     }
 
 pub returns-in_err-count : goal.returns-in_err-count
@@ -70,7 +69,6 @@ loop-reads-preserved-in_default g c =
           (subst (λ (n : ℕ). g.S.Sink.may_take c.loop-reads.sink n) (a_piece_left size c.loop-reads.reads c.loop-reads-test.true ∙ swap) c.loop-reads.invariant.room);
       size = same ∙ c.loop-reads.invariant.size;
       counted = omega (arith, c.in_ok-count.ensures.counted, c.loop-reads.invariant.counted);
-      may = c.loop-reads.invariant.may;
     }
 
 pub finish-requires-clause-room : goal.finish-requires-clause-room
@@ -137,7 +135,6 @@ loop-reads-preserved g c =
           (subst (λ (n : ℕ). g.S.Sink.may_take c.loop-reads.sink n) (a_piece_left size c.loop-reads.reads c.loop-reads-test.true) c.loop-reads.invariant.room);
       size = same ∙ c.loop-reads.invariant.size;
       counted = omega (arith, c.in_ok-count.ensures.counted, c.loop-reads.invariant.counted);
-      may = c.in_ok-end.ensures.may;
     }
 
 pub returns : goal.returns

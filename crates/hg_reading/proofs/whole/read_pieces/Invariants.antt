@@ -10,7 +10,6 @@ invariant-loop-reads g l =
       room : g.S.Sink.may_take l.sink (length l.fn.intake.buffer.items * (2 ^ 32 - l.reads));
       size : length l.bytes ≡ length l.fn.intake.buffer.items;
       counted : length l.input.calls ≡ l.reads + length l.fn.input.calls;
-      may : g.P.Pieces.may_push l.pieces;
     }
 
 abbrev pub decreases-loop-reads : goal.decreases-loop-reads

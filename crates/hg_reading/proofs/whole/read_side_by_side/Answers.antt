@@ -24,8 +24,8 @@ returns-in_err-intake g c =
     subst (λ x. Reads g.S.Sink.takes g.S.Sink.settled c.args.input.now.calls c.args.input.now.calls c.args.sink.now c.args.output.now.calls x c.args.sink.now c.args.output.now.calls) (sym same)
     (inr (read_nothing g.S.Sink.takes g.met.S.Sink.on g.S.Sink.settled c.args.input.now.calls c.args.sink.now c.args.output.now.calls c.in_err-intake.field-0.0 c.requires.settled (g.met.S.Sink.none c.args.sink.now c.args.output.now.calls) c.in_err-intake.ensures.cause))
 
-pub read_pieces-requires-clause-room : goal.read_pieces-requires-clause-room
-read_pieces-requires-clause-room g c =
+pub read_groups-requires-clause-room : goal.read_groups-requires-clause-room
+read_groups-requires-clause-room g c κs within =
     let size : length c.in_ok-intake.intake.buffer.items * 2 ^ 32 ≡ 2 ^ 53 = ap (λ (n : ℕ). n * 2 ^ 32) c.in_ok-intake.ensures.size in
     let split : 2 ^ 54 ≡ 2 ^ 53 + 2 ^ 53 = omega arith in
     let half = g.met.S.Sink.fewer c.args.sink.now (2 ^ 53) (2 ^ 53) (subst (λ (n : ℕ). g.S.Sink.may_take c.args.sink.now n) split c.requires.room) in

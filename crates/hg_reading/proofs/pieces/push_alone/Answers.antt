@@ -5,7 +5,7 @@ use Rattle.hg_wire.specs.Accesses.{event_of}
 use Rattle.hg_wire.specs.Streams.{GivesReading}
 use Rattle.hg_reading.specs.Taking.{Passes, Pushes}
 use Rattle.hg_reading.proofs.Passing.{passes_on, room_for_one, stops_in}
-use Rattle.hg_reading.proofs.pieces.AlonePieces.push.Goals as goal
+use Rattle.hg_reading.proofs.pieces.push_alone.Goals as goal
 
 rest_is : (k : ℕ) (rest : List ℕ) → take (length rest - k) (drop k rest) ≡ drop k rest
 rest_is k rest = take_all (length rest - k) (drop k rest) (omega (arith, length-drop k rest))

@@ -1,6 +1,6 @@
 use Rattle.std.proofs.Common.{length}
 use Rattle.hg_reading.specs.Taking.{Passes}
-use Rattle.hg_reading.proofs.pieces.AlonePieces.push.Given as goal
+use Rattle.hg_reading.proofs.pieces.push_alone.Given as goal
 
 abbrev pub invariant-loop-found : goal.invariant-loop-found
 invariant-loop-found g l = Passes g.S.Sink.takes l.fn.reader l.fn.sink l.fn.output.calls l.piece l.reader l.sink l.output.calls l.rest
