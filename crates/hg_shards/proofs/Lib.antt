@@ -18,7 +18,9 @@ pub mod Leaving
 pub mod Sharding
 mod Logging
 mod Noting
+mod Going
 mod Offering
+mod Passing
 mod Together
 mod Filling
 mod Batches
