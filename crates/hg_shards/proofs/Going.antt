@@ -16,7 +16,7 @@ use Rattle.hg_detect.specs.declared.detector.Answer.{Answer}
 use Rattle.hg_detect.specs.Answering.{AnswersOffer, AnswersPass, PassesAll, after_passing, is_accepted}
 use Rattle.hg_detect.specs.Engine.{AtPresent}
 use Rattle.hg_detect.specs.Shown.{ShownDetector, content, reports_of}
-use Rattle.hg_shards.proofs.Order.{each_both, each_weaker}
+use Rattle.hg_shards.proofs.Logging.{all_weaker}
 use Rattle.hg_shards.proofs.Sharding.{take_more}
 
 -- ---- the reports of one event
@@ -59,8 +59,8 @@ module _ {W : Type 0} (g : words.Ghosts W) (old new : ShownDetector W) where
             ∙ ap (λ (rs : List Report). take 65536 (rs ++ new_reports (content g.cell_of old) n.event)) are
             ∙ take_more 65536 all (new_reports (content g.cell_of old) n.event);
         later =
-            each_weaker (λ (r : Report). r.event ≡ old.parts.events + 1) (λ (r : Report). old.parts.events < r.event) (λ r e. omega (arith, e))
-            (new_reports (content g.cell_of old) n.event) (new_event (content g.cell_of old) n.event);
+            all_weaker (λ (r : Report). r.event ≡ old.parts.events + 1) (λ (r : Report). old.parts.events < r.event) (new_reports (content g.cell_of old) n.event) (λ r e. omega (arith, e))
+            (new_event (content g.cell_of old) n.event);
       }
 
   pub offer_goes : (n : Named) (answer : Result Answer Refusal) → AtPresent g.is_faithful old → AnswersOffer g old n answer new → ReportsGo old new

@@ -137,7 +137,7 @@ source_lawful within source (n ∷ events) trace each ok high =
     let same = each.0.source_is in
     absurd (omega (arith, high, low, same))
 
-on_small : (n more : ℕ) → n + more < 2 ^ 64 → counted_on n more ≡ n + more
+pub on_small : (n more : ℕ) → n + more < 2 ^ 64 → counted_on n more ≡ n + more
 on_small n more lt = ap (λ b. if b then n + more else 2 ^ 64 - 1) (lt-ltb (n + more) (2 ^ 64) lt)
 
 module _ (within : ℕ → Bool) (source : ℕ) (events trace : List Named) (old d : Detector PagedWords) (each : AllByRecursion (IsPassed within source) events) (ok : IsAccepted (reverse events ++ trace))
@@ -195,7 +195,7 @@ module _ (old : Shard) (d : Detector PagedWords) (source count : ℕ) (ready : I
       }
 
   own_stay : (limit : ℕ) (trace : List Named) → HasOwnSets limit trace old → HasOwnSets limit trace now
-  own_stay limit trace own = subst (λ (x : Detector PagedWords). HasOwnSets limit trace (record old { detector = x })) (sym h.rest) own
+  own_stay limit trace own = subst (λ (x : Detector PagedWords). HasOwnSets limit trace old → HasOwnSets limit trace (record old { detector = x })) (sym h.rest) (λ (o : HasOwnSets limit trace old). record { sets = o.sets; logged = o.logged; log = o.log }) own
 
   pub passes_over : PassesOver old source count now
   passes_over =

@@ -145,6 +145,16 @@ pub record MovesOn (old new : Shard) : Type 0 where
   pub later : AllByRecursion (λ r. old.detector.parts.events < r.event) late
   pub made : (k : ℕ) → k ≤ old.detector.parts.events → made_in k new ≡ made_in k old
 
+-- The shard has what a trace makes of its words: the first reports of these are kept, and its log says of each event of the trace which
+-- sets its words had asked for by then. It may have gone further: then it also has reports and sets of later events, and maybe of events
+-- that no trace has, since it passed over some that were not accepted.
+pub record GoesOn (trace : List Named) (s : Shard) : Type 0 where
+  pub counted : length trace ≤ s.detector.parts.events
+  pub late : List Report
+  pub reports : reports_of s.detector ≡ take MOST_REPORTS (reports_of_group (own_words s) trace ++ late)
+  pub later : AllByRecursion (λ r. length trace < r.event) late
+  pub log : LogsOwnSets trace s
+
 -- What the offer of an event gives a shard that followed a trace. The rules answer as they do after the whole trace, and what they
 -- accept is refused for want of sets or of memory alone. The shard follows the trace with the event where it was accepted, and the
 -- trace as it was where it was not; what the rules do not accept changes nothing. An event on a lock needs no room. Its table has the
