@@ -25,11 +25,11 @@ use Rattle.hg_shards.specs.declared.shards.Stop.{Stop}
 use Rattle.hg_shards.specs.Asking.{has_set}
 use Rattle.hg_shards.specs.Following.{SeesUpto, TakesSeen, upto}
 use Rattle.hg_shards.specs.Logging.{Log}
-use Rattle.hg_shards.specs.Sharding.{AnswersShard, ArePassed, AtEachEvent, Follows, GoesOn, HasMade, HasOwnSets, IsPassed, IsReady, LogsOwnSets, MovesOn, PassesOver, own_words, reports_of_group, verdict_after}
+use Rattle.hg_shards.specs.Sharding.{AnswersShard, ArePassed, AtEachEvent, Follows, GoesOn, HasMade, HasOwnSets, IsPassed, IsReady, Knows, LogsOwnSets, MovesOn, PassesOver, own_words, reports_of_group, verdict_after}
 use Rattle.hg_shards.proofs.Batches.{one_onto}
 use Rattle.hg_shards.proofs.Logging.{all_both, all_weaker}
 use Rattle.hg_shards.proofs.Noting.{accept_of, at_each}
-use Rattle.hg_shards.proofs.Passing.{accepted_before, few_events, knows_all, sets_all}
+use Rattle.hg_shards.proofs.Passing.{accepted_before, counted, few_events, knows_all, sets_all}
 
 -- ---- what a shard has, goes on
 
@@ -82,13 +82,15 @@ passed_on trace events s new source count limit p le each ok k own ready =
       reports = known.reports ∙ ap (take 65536) (sym (append-nil (reports_of_group (own_words s) (reverse events ++ trace))));
       later = tt;
       log = sets.log;
-    }) counted)
+    }) far_enough)
   where
+    known : Knows (own_words s) (reverse events ++ trace) (counted (content_of s.detector) source (length events))
     known = knows_all (own_words s) source events trace (content_of s.detector) each ok k
+    sets : HasOwnSets limit (reverse events ++ trace) s
     sets = sets_all s limit source events trace (subst (λ (n : ℕ). AllByRecursion (λ e. e ≤ n) s.log.events) (sym k.content.events) ready.log.past) each ok own
 
-    counted : length (reverse events ++ trace) ≤ new.detector.parts.events
-    counted =
+    far_enough : length (reverse events ++ trace) ≤ new.detector.parts.events
+    far_enough =
         let few = few_events (reverse events ++ trace) ok in
         let both = length-append (reverse events) trace in
         let turned = length-reverse events in
@@ -99,10 +101,13 @@ passed_on trace events s new source count limit p le each ok k own ready =
 
 -- ---- places of a batch
 
+take_nil : (n : ℕ) → ◌≡◌ {A = List Named} (take n []) []
+take_nil zero = refl
+take_nil (suc n) = refl
+
 take_further : (p j : ℕ) (xs : List Named) → take (p + j) xs ≡ take p xs ++ take j (drop p xs)
 take_further zero j xs = ap (λ n. take n xs) (let e : 0 + j ≡ j = omega arith in e)
-take_further (suc p) zero [] = refl
-take_further (suc p) (suc j) [] = refl
+take_further (suc p) j [] = take_nil (suc p + j) ∙ sym (take_nil j)
 take_further (suc p) j (x ∷ xs) = ap (λ n. take n (x ∷ xs)) (let e : suc p + j ≡ suc (p + j) = omega arith in e) ∙ ap (λ ys. x ∷ ys) (take_further p j xs)
 
 -- the trace with more events of the batch
@@ -171,7 +176,7 @@ module _ (old : Shard) (events : List Named) (sees : Event → Bool) where
     pub sees_passed : (source gap : ℕ) (new : Shard) → PassesOver s source gap new → p + gap ≤ length events → AllByRecursion (IsUnseen source) (take gap (drop p events)) → SeesUpto old events sees (p + gap) new
     sees_passed source gap new over fits each =
         record {
-          rest = over.rest ∙ ap (λ (x : Shard). record x { detector = new.detector }) h.rest;
+          rest = over.rest ∙ ap (λ (x : Shard). record x { detector = new.detector }) h.rest ∙ ap (λ (l : Log). record old { detector = new.detector; log = l }) (sym (ap (λ (x : Shard). x.log) over.rest));
           ready = over.ready;
           accepts = λ trace k i n lt at seen ok.
               ⊎_elim

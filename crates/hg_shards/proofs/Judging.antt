@@ -275,7 +275,7 @@ module _ (events : List Named) where
       pub count_is : new.count ≡ count
       pub part_is : new.part ≡ k
       pub within : accepted_of events stop ≤ length events
-      pub accepts : (i : ℕ) (n : Named) → i < accepted_of events stop → slice_get events i ≡ Some n → sees n.event ≡ true → IsAccepted (upto events trace i) → verdict_after (upto events trace i) n ≡ Accept
+      pub accepts : (i : ℕ) (n : Named) → i < accepted_of events stop → slice_get events i ≡ Some n → sees n.event ≡ true → IsAccepted (upto events trace i) → verdict_after (upto events trace i) n ≡ verdicts.Accept
       pub goes_on : (i : ℕ) → i ≤ accepted_of events stop → IsAccepted (upto events trace i) → GoesOn (upto events trace i) new
       pub known : stop ≡ None → IsAccepted (upto events trace (length events)) → KnowsTrace limit (upto events trace (length events)) new
       pub stopped : (s : Stop) → stop ≡ Some s → IsAccepted (upto events trace s.place) → StoppedBy s
@@ -425,7 +425,7 @@ goes_less more trace s g =
 goes_earlier : (events trace : List Named) (i p : ℕ) → i ≤ p → (s : Shard) → GoesOn (upto events trace p) s → GoesOn (upto events trace i) s
 goes_earlier events trace i p le s g = let more = onward i p events trace le in goes_less more.0 (upto events trace i) s (subst (λ (t : List Named). GoesOn t s) more.1 g)
 
-sees_all : ℕ → Event → Bool
+abbrev sees_all : ℕ → Event → Bool
 sees_all k e = true
 
 module _ (events trace : List Named) (limit : ℕ) where

@@ -1,12 +1,12 @@
 -- A batch in lists, offered to the shards of all parts.
-use Rattle.std.proofs.Common.{◌≡◌, ℕ, zero, suc, ◌+◌, ◌^◌, ◌<◌, ◌≤◌, get_or, slice_set, All, Bool, true, false, List, [], ◌∷◌, ◌++◌, take, drop, length, map, Option, Some, None, refl, sym, ap, ◌∙◌, subst, arith}
-use Rattle.std.proofs.lemmas.Bool.{false≢true}
+use Rattle.std.proofs.Common.{◌≡◌, ℕ, zero, suc, ◌+◌, ◌^◌, ◌<◌, ◌≤◌, get_or, slice_set, All, Bool, true, false, List, [], ◌∷◌, ◌++◌, take, drop, length, map, Option, Some, None, Vec, Result, Ok, Err, refl, sym, ap, ◌∙◌, subst, arith}
+use Rattle.std.proofs.lemmas.Bool.{eq-eqb}
 use Rattle.std.proofs.lemmas.Nat.{mod_below}
-use Rattle.std.proofs.lemmas.List.{length-map}
+use Rattle.std.proofs.lemmas.List.{get_or-map, length-map, map-append, take-append-drop}
 use Rattle.std.proofs.lemmas.Option.{slice_get_within}
 use Rattle.std.proofs.lemmas.List.Elements.{All-append, All-drop, All-from_recursion, All-take}
 use Rattle.std.specs.List.{AllByRecursion, range_with_len}
-use Rattle.std.specs.Prelude.{◌-◌, ◌/◌, ◌&&◌, ◌||◌, ◌==◌, not}
+use Rattle.std.specs.Prelude.{IfOk, ◌-◌, ◌/◌, ◌&&◌, ◌||◌, ◌==◌, not}
 use Rattle.hg_model.specs.declared.event.Access.{Access}
 use Rattle.hg_model.specs.declared.event.Event.{Event}
 use Rattle.hg_model.specs.declared.event.Event.TheVariants.{Read, Write}
@@ -34,7 +34,6 @@ use Rattle.hg_shards.specs.Stopping.{accepted_of, one_stop}
 use Rattle.hg_shards.proofs.Batches.{earlier_none, first_of_both}
 use Rattle.hg_shards.proofs.Following.{moves_on}
 use Rattle.hg_shards.proofs.Judging.{EachEnds, Ends, IsBatch, StoppedBy, judges_by, judges_lem}
-use Rattle.hg_shards.proofs.Routing.{eq_true}
 use Rattle.hg_shards.proofs.Seeing.{named_length}
 
 -- ---- several shards
@@ -172,20 +171,20 @@ seen_by_some : (count : ℕ) (e : Event) → 0 < count → (k : ℕ) × (k < cou
 seen_by_some count (Read a) some = (page_part count (a.at / 1024), mod_below _ count some, by (is_routed (Read a)) (page_part count ((a.at + (a.len - 1)) / 1024) == page_part count (a.at / 1024)))
   where
     by : (routed other : Bool) → (not routed || (routed && ((page_part count (a.at / 1024) == page_part count (a.at / 1024)) || other))) ≡ true
-    by true other = ap (λ b. b || other) (eq_true _ _ refl)
+    by true other = ap (λ b. b || other) (eq-eqb _ _ refl)
     by false other = refl
 seen_by_some count (Write a) some = (page_part count (a.at / 1024), mod_below _ count some, by (is_routed (Write a)) (page_part count ((a.at + (a.len - 1)) / 1024) == page_part count (a.at / 1024)))
   where
     by : (routed other : Bool) → (not routed || (routed && ((page_part count (a.at / 1024) == page_part count (a.at / 1024)) || other))) ≡ true
-    by true other = ap (λ b. b || other) (eq_true _ _ refl)
+    by true other = ap (λ b. b || other) (eq-eqb _ _ refl)
     by false other = refl
 seen_by_some count e some = (0, some, refl)
 
 pub judges_routes : (old mid new : Judge) (source first : ℕ) (routes : Routes) (found stop : Option Stop) → TakeLists source first routes.common.items routes.count old.shards.shards.items (items_of routes.lists.items) found mid.shards.shards.items
-    → length routes.lists.items ≡ length old.shards.shards.items → mid.limit ≡ old.limit → mid.events ≡ old.events → new ≡ record mid { events = new.events } → Concludes mid routes.count found stop new
-    → JudgesRoutes old source first routes stop new
-judges_routes old mid new source first routes found stop took same limit_is events_are rest end = λ events routed fits.
-    let many = named_length source first events ∙ sym routed.count in
+    → length routes.lists.items ≡ length old.shards.shards.items → mid.limit ≡ old.limit → mid.events ≡ old.events → new ≡ record mid { events = new.events } → (n : ℕ) → n ≡ routes.count
+    → Concludes mid n found stop new → JudgesRoutes old source first routes stop new
+judges_routes old mid new source first routes found stop took same limit_is events_are rest n count_is end = λ events routed fits.
+    let many = named_length source first events ∙ sym routed.count ∙ sym count_is in
     judges_by old new (named source first events) found end.found mid.shards.shards.items stop (length old.shards.shards.items) (is_seen (length old.shards.shards.items))
     (λ trace table ok all has.
     record {
@@ -224,3 +223,17 @@ segments_are c table j s d h is = by j.shards.shards.items h.parts.0 h.parts.1 i
     by [] some parts here = absurd (omega (arith, some))
     by (x ∷ shards) some parts here =
         ap (λ (y : Shard). length y.detector.segments) here ∙ ap (λ (ss : List Segment). length ss) (sym parts.0.has.0.content.segments) ∙ ap (λ (d : Content). length d.segments) (sym h.content)
+
+pub if_ok_on : {X E : Type 0} {P Q : X → Type 0} (r : Result X E) → ((x : X) → P x → Q x) → IfOk r P → IfOk r Q
+if_ok_on (Ok x) f h = f x h
+if_ok_on (Err e) f h = h
+
+pub first_items : {Z : Type 0} (lists : List (Vec OwnAccess Z)) → length (items_of lists) ≡ length lists
+first_items lists = length-map lists (λ list. list.items)
+
+pub both_items : {Z : Type 0} (lists : List (Vec OwnAccess Z)) (list : Vec OwnAccess Z) → 0 < length lists → list ≡ get_or lists 0 list → list.items ≡ get_or (items_of lists) 0 []
+both_items lists list some is = ap (λ l. l.items) is ∙ sym (get_or-map (λ l. l.items) lists 0 list [] some)
+
+pub halves_of : {Z : Type 0} (mid : ℕ) (all front back : List (Vec OwnAccess Z)) → front ≡ take mid all → back ≡ drop mid all → items_of all ≡ items_of front ++ items_of back
+halves_of mid all front back is rest =
+    ap items_of (sym (take-append-drop mid all) ∙ (λ i. sym is i ++ sym rest i)) ∙ map-append (λ l. l.items) front back

@@ -1,7 +1,9 @@
 -- Events in the lists of the parts.
 use Rattle.std.proofs.Common.{◌≡◌, ⊎_elim, inl, inr, ℕ, zero, suc, ◌+◌, ◌-◌, ◌*◌, ◌/◌, ◌^◌, ◌<◌, ◌≤◌, nat_eq, nat_le, nat_lt, Bool, true, false, cond, not, ◌&&◌, ◌||◌, List, [], ◌∷◌, ◌++◌, length, map, set, get_or, replicate, refl, sym, ap, ◌∙◌, subst, arith, append-nil, eqb-true, length-set, slice_get, Option, Some, None, Vec, vec_capacity}
-use Rattle.std.proofs.lemmas.Bool.{false≢true, ne_eqb}
-use Rattle.std.proofs.lemmas.List.{get_or-set_other, get_or-map, length-map, length_push, map-set}
+use Rattle.std.proofs.lemmas.Bool.{false≢true, cases_lt, eq-eqb, ltb-false, ltb-true, ne_eqb}
+use Rattle.std.proofs.lemmas.Grind.{get_or-set_at}
+use Rattle.std.proofs.lemmas.Option.{get_or_from_slice_get, slice_get-get_or}
+use Rattle.std.proofs.lemmas.List.{get_or-set_other, get_or-map, length-map, length-replicate, length_push, map-set}
 use Rattle.std.proofs.lemmas.List.FromFn.{get_or-map-range_with_len, length-map-range_with_len}
 use Rattle.std.specs.List.{range_with_len}
 use Rattle.std.specs.Prelude.{◌==◌, if◌then◌else◌}
@@ -31,6 +33,11 @@ set_one f h a (suc n) (suc k) y lt is same =
     λ i. same a (λ e. absurd (omega (arith, e))) i
     ∷ set_one f h (a + 1) n k y (omega (arith, lt)) (is ∙ ap h (let e : a + suc k ≡ (a + 1) + k = omega arith in e))
     (λ j not. same j (λ e. not (let f2 : j ≡ (a + 1) + k = omega (arith, e) in f2))) i
+
+set_zero : {X : Type 0} (f h : ℕ → X) (n k : ℕ) (y : X) → k < n → y ≡ h k → ((j : ℕ) → (j ≡ k → ⊥) → f j ≡ h j) → set (map f (range_with_len 0 n)) k y ≡ map h (range_with_len 0 n)
+set_zero f h n k y lt is same =
+    let z : k ≡ 0 + k = omega arith in
+    set_one f h 0 n k y lt (is ∙ ap h z) (λ j not. same j (λ e. not (e ∙ z)))
 
 pub none_own : (a n : ℕ) (count : ℕ) → replicate n [] ≡ map (λ k. own_from count k 0 []) (range_with_len a n)
 none_own a zero count = refl
@@ -76,11 +83,20 @@ module _ (count : ℕ) (events : List Event) (e : Event) where
   abbrev behind : ℕ → List OwnAccess
   behind k = own_from count k 0 (events ++ e ∷ [])
 
+  last_place : 0 + length events ≡ length events
+  last_place = omega arith
+
+  own_end : (k : ℕ) → behind k ≡ before k ++ (if is_own count k e then item ∷ [] else [])
+  own_end k = own_more count k 0 events e ∙ ap (λ n. before k ++ (if is_own count k e then own_access n e ∷ [] else [])) last_place
+
+  common_end : common_from 0 (events ++ e ∷ []) ≡ common_from 0 events ++ (if is_routed e then [] else (let p : Placed = record { place = length events; event = e } in p) ∷ [])
+  common_end = common_more 0 events e ∙ ap (λ n. common_from 0 events ++ (if is_routed e then [] else (let p : Placed = record { place = n; event = e } in p) ∷ [])) last_place
+
   behind_own : (k : ℕ) → is_own count k e ≡ true → behind k ≡ before k ++ item ∷ []
-  behind_own k is = own_more count k 0 events e ∙ ap (λ b. before k ++ (if b then item ∷ [] else [])) is
+  behind_own k is = own_end k ∙ ap (λ b. before k ++ (if b then item ∷ [] else [])) is
 
   behind_other : (k : ℕ) → is_own count k e ≡ false → before k ≡ behind k
-  behind_other k is = sym (own_more count k 0 events e ∙ ap (λ b. before k ++ (if b then item ∷ [] else [])) is ∙ append-nil (before k))
+  behind_other k is = sym (own_end k ∙ ap (λ b. before k ++ (if b then item ∷ [] else [])) is ∙ append-nil (before k))
 
   pub lists_stay : is_routed e ≡ false → own_lists count events ≡ own_lists count (events ++ e ∷ [])
   lists_stay all = map_same before behind 0 count (λ k le. behind_other k (own_is_routed count k e all))
@@ -91,7 +107,7 @@ module _ (count : ℕ) (events : List Event) (e : Event) where
   -- one part has it
   pub one_put : (k : ℕ) → k < count → is_own count k e ≡ true → ((j : ℕ) → (j ≡ k → ⊥) → is_own count j e ≡ false) → with_own (own_lists count events) k item ≡ own_lists count (events ++ e ∷ [])
   one_put k lt is others =
-      set_one before behind 0 count k (get_or (own_lists count events) k [] ++ item ∷ []) lt
+      set_zero before behind count k (get_or (own_lists count events) k [] ++ item ∷ []) lt
       (ap (λ (xs : List OwnAccess). xs ++ item ∷ []) (own_at k lt) ∙ sym (behind_own k is)) (λ j not. behind_other j (others j not))
 
   -- two parts have it
@@ -99,14 +115,7 @@ module _ (count : ℕ) (events : List Event) (e : Event) where
   between k j = if j == k then before j ++ item ∷ [] else before j
 
   between_at : (k j : ℕ) → j ≡ k → between k j ≡ before j ++ item ∷ []
-  between_at k j is = ap (λ b. if b then before j ++ item ∷ [] else before j) (eqb-from j k is)
-    where
-      eqb-from : (m n : ℕ) → m ≡ n → (m == n) ≡ true
-      eqb-from m n same = subst (λ (x : ℕ). (m == x) ≡ true) same (by m)
-        where
-          by : (x : ℕ) → (x == x) ≡ true
-          by zero = refl
-          by (suc x) = by x
+  between_at k j is = ap (λ b. if b then before j ++ item ∷ [] else before j) (eq-eqb j k is)
 
   between_other : (k j : ℕ) → (j ≡ k → ⊥) → between k j ≡ before j
   between_other k j not = ap (λ b. if b then before j ++ item ∷ [] else before j) (ne_eqb j k not)
@@ -116,27 +125,23 @@ module _ (count : ℕ) (events : List Event) (e : Event) where
     where
       by : (b : Bool) → (j == k) ≡ b → (if b then before j ++ item ∷ [] else before j) ≡ behind j
       by true same = sym (behind_own j (subst (λ (n : ℕ). is_own count n e ≡ true) (sym (eqb-true j k same)) is))
-      by false not = behind_other j (other (λ same. false≢true (sym not ∙ subst (λ (n : ℕ). (j == n) ≡ true) same (self j))))
-        where
-          self : (x : ℕ) → (x == x) ≡ true
-          self zero = refl
-          self (suc x) = self x
+      by false differs = behind_other j (other (λ same. false≢true (sym differs ∙ eq-eqb j k same)))
 
   pub two_put : (k m : ℕ) → k < count → m < count → (m ≡ k → ⊥) → is_own count k e ≡ true → is_own count m e ≡ true → ((j : ℕ) → (j ≡ k → ⊥) → (j ≡ m → ⊥) → is_own count j e ≡ false)
       → with_own (with_own (own_lists count events) k item) m item ≡ own_lists count (events ++ e ∷ [])
   two_put k m below under apart is also others =
       ap (λ (ls : List (List OwnAccess)). with_own ls m item)
-      (set_one before (between k) 0 count k (get_or (own_lists count events) k [] ++ item ∷ []) below
+      (set_zero before (between k) count k (get_or (own_lists count events) k [] ++ item ∷ []) below
       (ap (λ (xs : List OwnAccess). xs ++ item ∷ []) (own_at k below) ∙ sym (between_at k k refl)) (λ j not. sym (between_other k j not)))
-      ∙ set_one (between k) behind 0 count m (get_or (map (between k) (range_with_len 0 count)) m [] ++ item ∷ []) under
+      ∙ set_zero (between k) behind count m (get_or (map (between k) (range_with_len 0 count)) m [] ++ item ∷ []) under
       (ap (λ (xs : List OwnAccess). xs ++ item ∷ []) (get_or-map-range_with_len (between k) 0 count m m [] under (omega arith) ∙ between_other k m apart) ∙ sym (behind_own m also))
       (λ j not. between_behind k j is (λ other. others j other not))
 
   pub common_stays : is_routed e ≡ true → common_from 0 events ≡ common_from 0 (events ++ e ∷ [])
-  common_stays one = sym (common_more 0 events e ∙ ap (λ b. common_from 0 events ++ (if b then [] else (let p : Placed = record { place = length events; event = e } in p) ∷ [])) one ∙ append-nil (common_from 0 events))
+  common_stays one = sym (common_end ∙ ap (λ b. common_from 0 events ++ (if b then [] else (let p : Placed = record { place = length events; event = e } in p) ∷ [])) one ∙ append-nil (common_from 0 events))
 
   pub common_put : is_routed e ≡ false → common_from 0 events ++ record { place = length events; event = e } ∷ [] ≡ common_from 0 (events ++ e ∷ [])
-  common_put all = sym (common_more 0 events e ∙ ap (λ b. common_from 0 events ++ (if b then [] else (let p : Placed = record { place = length events; event = e } in p) ∷ [])) all)
+  common_put all = sym (common_end ∙ ap (λ b. common_from 0 events ++ (if b then [] else (let p : Placed = record { place = length events; event = e } in p) ∷ [])) all)
 
 -- ---- routes
 
@@ -200,30 +205,81 @@ own_is : (count k : ℕ) (write : Bool) (a : Access) → is_routed (access_event
 own_is count k true a h = ap (λ b. b && touches_part count k a) h
 own_is count k false a h = ap (λ b. b && touches_part count k a) h
 
-access_item : (place : ℕ) (write : Bool) (a : Access) → own_access place (access_event write a) ≡ record { at = a.at; place = place; t = a.t; len = a.len; write = write }
+pub access_item : (place : ℕ) (write : Bool) (a : Access) → own_access place (access_event write a) ≡ record { at = a.at; place = place; t = a.t; len = a.len; write = write }
 access_item place true a = refl
 access_item place false a = refl
-
-pub eq_true : (m n : ℕ) → m ≡ n → (m == n) ≡ true
-eq_true m n same = subst (λ (x : ℕ). (m == x) ≡ true) same (by m)
-  where
-    by : (x : ℕ) → (x == x) ≡ true
-    by zero = refl
-    by (suc x) = by x
 
 module _ (count : ℕ) (write : Bool) (a : Access) (first last : ℕ) (routed : is_routed (access_event write a) ≡ true) (at_first : first ≡ page_part count (a.at / 1024))
     (at_last : last ≡ page_part count ((a.at + (a.len - 1)) / 1024)) where
   pub first_own : is_own count first (access_event write a) ≡ true
-  first_own = own_is count first write a routed ∙ ap (λ b. b || (page_part count ((a.at + (a.len - 1)) / 1024) == first)) (eq_true _ first (sym at_first))
+  first_own = own_is count first write a routed ∙ ap (λ b. b || (page_part count ((a.at + (a.len - 1)) / 1024) == first)) (eq-eqb _ first (sym at_first))
 
   pub last_own : is_own count last (access_event write a) ≡ true
   last_own = own_is count last write a routed ∙ by (page_part count (a.at / 1024) == last)
     where
       by : (b : Bool) → (b || (page_part count ((a.at + (a.len - 1)) / 1024) == last)) ≡ true
       by true = refl
-      by false = eq_true _ last (sym at_last)
+      by false = eq-eqb _ last (sym at_last)
 
   pub others_own : (j : ℕ) → (j ≡ first → ⊥) → (j ≡ last → ⊥) → is_own count j (access_event write a) ≡ false
-  others_own j no yes =
+  others_own j apart beside =
       own_is count j write a routed
-      ∙ (λ i. ne_eqb (page_part count (a.at / 1024)) j (λ same. no (sym same ∙ sym at_first)) i || ne_eqb (page_part count ((a.at + (a.len - 1)) / 1024)) j (λ same. yes (sym same ∙ sym at_last)) i)
+      ∙ (λ i. ne_eqb (page_part count (a.at / 1024)) j (λ same. apart (sym same ∙ sym at_first)) i || ne_eqb (page_part count ((a.at + (a.len - 1)) / 1024)) j (λ same. beside (sym same ∙ sym at_last)) i)
+
+-- ---- the vectors of the parts
+
+pub apart_in_set : {X : Type 0} (xs : List X) (k i : ℕ) (v : X) → (k ≡ i → ⊥) → slice_get (set xs i v) k ≡ slice_get xs k
+apart_in_set [] k i v differ = refl
+apart_in_set (x ∷ xs) zero zero v differ = absurd (differ refl)
+apart_in_set (x ∷ xs) zero (suc i) v differ = refl
+apart_in_set (x ∷ xs) (suc k) zero v differ = refl
+apart_in_set (x ∷ xs) (suc k) (suc i) v differ = apart_in_set xs k i v (λ e. differ (ap suc e))
+
+module _ {Z : Type 0} (xs : List (Vec OwnAccess Z)) (k : ℕ) (d : Vec OwnAccess Z) (is : d ≡ get_or xs k d) where
+  pub puts_one : (v : Vec OwnAccess Z) (item : OwnAccess) → k < length xs → v.items ≡ d.items ++ item ∷ [] → items_of (set xs k v) ≡ with_own (items_of xs) k item
+  puts_one v item lt more =
+      map-set (λ list. list.items) xs k v
+      ∙ ap (λ (new : List OwnAccess). set (items_of xs) k new)
+      (more ∙ ap (λ (old : List OwnAccess). old ++ item ∷ []) (ap (λ list. list.items) is ∙ sym (get_or-map (λ list. list.items) xs k d [] lt)))
+
+  pub clears_one : (v : Vec OwnAccess Z) → v.items ≡ [] → items_of (set xs k v) ≡ set (items_of xs) k []
+  clears_one v none = map-set (λ list. list.items) xs k v ∙ ap (λ (new : List OwnAccess). set (items_of xs) k new) none
+
+  pub room_at : nat_lt (length d.items) (vec_capacity d) ≡ true → HasRoomAt xs k
+  room_at room list at = subst (λ (x : Vec OwnAccess Z). length x.items < vec_capacity x) (is ∙ get_or_from_slice_get xs k list d at) (ltb-true (length d.items) (vec_capacity d) room)
+
+  pub no_room_at : nat_lt (length d.items) (vec_capacity d) ≡ false → k < length xs → HasRoomAt xs k → ⊥
+  no_room_at full lt room =
+      let few = room (get_or xs k d) (slice_get-get_or xs k d lt) in
+      let many = ltb-false (length d.items) (vec_capacity d) full in
+      let same = ap (λ (x : Vec OwnAccess Z). length x.items) is in
+      let still = ap (λ (x : Vec OwnAccess Z). vec_capacity x) is in
+      omega (arith, few, many, same, still)
+
+-- lists without an event are those of none
+pub routed_none : (r : Routes) (n : ℕ) → r.count ≡ 0 → r.common.items ≡ [] → lists_of r ≡ replicate n [] → IsRouted [] r
+routed_none r n count common lists =
+    record {
+      count = count;
+      common = common;
+      own = lists ∙ ap (λ m. replicate m []) (sym (ap (λ (ls : List (List OwnAccess)). length ls) lists ∙ length-replicate n []) ∙ length-map r.lists.items (λ list. list.items)) ∙ none_own 0 (parts_in r) (parts_in r);
+    }
+
+all_empty : (xs : List (List OwnAccess)) → ((j : ℕ) → j < length xs → get_or xs j [] ≡ []) → xs ≡ replicate (length xs) []
+all_empty [] h = refl
+all_empty (x ∷ xs) h = λ i. h 0 (omega arith) i ∷ all_empty xs (λ j lt. h (suc j) (omega (arith, lt))) i
+
+pub cleared_more : (xs : List (List OwnAccess)) (k : ℕ) → k < length xs → ((j : ℕ) → j < k → get_or xs j [] ≡ []) → (j : ℕ) → j < k + 1 → get_or (set xs k []) j [] ≡ []
+cleared_more xs k below h j lt =
+    ⊎_elim
+    (λ (low : j < k). get_or-set_other xs k j [] [] (λ e. absurd (omega (arith, low, e))) ∙ h j low)
+    (λ (high : k ≤ j). get_or-set_at xs k j [] [] (omega (arith, high, lt)) below)
+    (cases_lt j k)
+
+pub cleared_all : (r : Routes) (k : ℕ) → r.count ≡ 0 → r.common.items ≡ [] → parts_in r ≤ k → ((j : ℕ) → j < k → get_or (lists_of r) j [] ≡ []) → IsRouted [] r
+cleared_all r k count common le h =
+    let many = length-map r.lists.items (λ list. list.items) in
+    routed_none r (length (lists_of r)) count common (all_empty (lists_of r) (λ j lt. h j (omega (arith, lt, many, le))))
+
+pub two_puts : (xs ys : List (List OwnAccess)) (m : ℕ) (item : OwnAccess) → xs ≡ ys → with_own xs m item ≡ with_own ys m item
+two_puts xs ys m item same = ap (λ (ls : List (List OwnAccess)). with_own ls m item) same

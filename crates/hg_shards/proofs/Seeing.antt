@@ -1,5 +1,5 @@
 -- What comes next of the lists of a part, and what is passed over before it.
-use Rattle.std.proofs.Common.{◌≡◌, ℕ, zero, suc, ◌+◌, ◌-◌, ◌*◌, ◌/◌, ◌^◌, ◌<◌, ◌≤◌, nat_eq, nat_lt, Bool, true, false, cond, not, ◌&&◌, ◌||◌, List, [], ◌∷◌, ◌++◌, length, take, drop, slice_get, Option, Some, None, Result, Ok, refl, sym, ap, ◌∙◌, subst, arith, length-append, eqb-true}
+use Rattle.std.proofs.Common.{◌≡◌, get_or, min, ℕ, zero, suc, ◌+◌, ◌-◌, ◌*◌, ◌/◌, ◌^◌, ◌<◌, ◌≤◌, nat_eq, nat_lt, Bool, true, false, cond, not, ◌&&◌, ◌||◌, List, [], ◌∷◌, ◌++◌, length, take, drop, slice_get, Option, Some, None, Result, Ok, refl, sym, ap, ◌∙◌, subst, arith, length-append, eqb-true}
 use Rattle.std.proofs.lemmas.Bool.{false≢true, lt-ltb, le-leb, lt-leb, le-ltb, or_parts, and_parts, eqb-false, ltb-false, ltb-true}
 use Rattle.std.proofs.Math.Seq.{take-length}
 use Rattle.std.specs.List.{AllByRecursion}
@@ -23,9 +23,11 @@ use Rattle.hg_shards.specs.declared.shards.Stop.{Stop}
 use Rattle.hg_shards.specs.Alike.{PassesBy, ReadBy, Touch, Untouched, WrittenBy, is_of_memory, touch}
 use Rattle.hg_shards.specs.Batches.{RefusesAs, StopsAs, cause_of}
 use Rattle.hg_shards.specs.Following.{SeesUpto, TakesSeen, named}
+use Rattle.hg_shards.specs.Logging.{Log}
 use Rattle.hg_shards.specs.Routing.{common_from, is_own, is_routed, is_seen, own_access, own_from, touches_part}
 use Rattle.hg_shards.specs.Seeing.{BeginsBehind, NoneBefore, OffersNext, TakesLists, at_place, event_of}
-use Rattle.hg_shards.specs.Sharding.{AnswersShard, IsPassed, IsReady, PassesOver, own_words, page_part, words_of}
+use Rattle.hg_shards.specs.Sharding.{AnswersShard, IsPassed, IsReady, PassesOthers, PassesOver, WantsOwnRoom, own_words, page_part, words_of}
+use Rattle.hg_cells.specs.contracts.paged.PagedWordsWords.TheImpl as paged
 use Rattle.hg_shards.proofs.Batches.{accepted_by}
 use Rattle.hg_shards.proofs.Following.{IsUnseen, sees_none, sees_one, sees_passed}
 use Rattle.hg_shards.proofs.Passing.{on_small}
@@ -125,19 +127,19 @@ pub record Comes (count k p : ℕ) (events : List Event) (place : ℕ) (e : Even
 module _ (count k : ℕ) where
   first_own : (p : ℕ) (events : List Event) (o : OwnAccess) (own : List OwnAccess) → own_from count k p events ≡ o ∷ own → p ≤ o.place
   first_own p [] o own h = absurd (cc h)
-  first_own p (e ∷ events) o own h = by (is_own count k e) refl h
+  first_own p (e ∷ events) o own h = by (first_own (p + 1) events o own) (is_own count k e) refl h
     where
-      by : (b : Bool) → is_own count k e ≡ b → (if b then own_access p e ∷ own_from count k (p + 1) events else own_from count k (p + 1) events) ≡ o ∷ own → p ≤ o.place
-      by true is q = let same : own_access p e ≡ o = cc q in let at = ap (λ (x : OwnAccess). x.place) same in let here = own_place p e in omega (arith, at, here)
-      by false is q = let le = first_own (p + 1) events o own q in omega (arith, le)
+      by : (own_from count k (p + 1) events ≡ o ∷ own → p + 1 ≤ o.place) → (b : Bool) → is_own count k e ≡ b → (if b then own_access p e ∷ own_from count k (p + 1) events else own_from count k (p + 1) events) ≡ o ∷ own → p ≤ o.place
+      by rest true is q = let same : own_access p e ≡ o = cc q in let at = ap (λ (x : OwnAccess). x.place) same in let here = own_place p e in omega (arith, at, here)
+      by rest false is q = let le = rest q in omega (arith, le)
 
   first_common : (p : ℕ) (events : List Event) (c : Placed) (common : List Placed) → common_from p events ≡ c ∷ common → p ≤ c.place
   first_common p [] c common h = absurd (cc h)
-  first_common p (e ∷ events) c common h = by (is_routed e) refl h
+  first_common p (e ∷ events) c common h = by (first_common (p + 1) events c common) (is_routed e) refl h
     where
-      by : (b : Bool) → is_routed e ≡ b → (if b then common_from (p + 1) events else (let x : Placed = record { place = p; event = e } in x) ∷ common_from (p + 1) events) ≡ c ∷ common → p ≤ c.place
-      by true is q = let le = first_common (p + 1) events c common q in omega (arith, le)
-      by false is q = let at = ap (λ (x : Placed). x.place) (placed_is q) in omega (arith, at)
+      by : (common_from (p + 1) events ≡ c ∷ common → p + 1 ≤ c.place) → (b : Bool) → is_routed e ≡ b → (if b then common_from (p + 1) events else (let x : Placed = record { place = p; event = e } in x) ∷ common_from (p + 1) events) ≡ c ∷ common → p ≤ c.place
+      by rest true is q = let le = rest q in omega (arith, le)
+      by rest false is q = let at = ap (λ (x : Placed). x.place) (placed_is q) in omega (arith, at)
         where
           placed_is : {x y : Placed} {xs ys : List Placed} → ◌≡◌ {A = List Placed} (x ∷ xs) (y ∷ ys) → x ≡ y
           placed_is r = cc r
@@ -159,11 +161,11 @@ module _ (count k : ℕ) where
   pub next_own : (p : ℕ) (events : List Event) (o : OwnAccess) (own : List OwnAccess) (common : List Placed) → own_from count k p events ≡ o ∷ own → common ≡ common_from p events → NoneBefore o.place common
       → Comes count k p events o.place (event_of o) own common
   next_own p [] o own common h is none = absurd (cc h)
-  next_own p (e ∷ events) o own common h is none = by (is_own count k e) (is_routed e) refl refl h is
+  next_own p (e ∷ events) o own common h is none = by (λ q r. next_own (p + 1) events o own common q r none) (is_own count k e) (is_routed e) refl refl h is
     where
-      by : (mine all : Bool) → is_own count k e ≡ mine → is_routed e ≡ all → (if mine then own_access p e ∷ own_from count k (p + 1) events else own_from count k (p + 1) events) ≡ o ∷ own
+      by : (own_from count k (p + 1) events ≡ o ∷ own → common ≡ common_from (p + 1) events → Comes count k (p + 1) events o.place (event_of o) own common) → (mine all : Bool) → is_own count k e ≡ mine → is_routed e ≡ all → (if mine then own_access p e ∷ own_from count k (p + 1) events else own_from count k (p + 1) events) ≡ o ∷ own
           → common ≡ (if all then common_from (p + 1) events else (let x : Placed = record { place = p; event = e } in x) ∷ common_from (p + 1) events) → Comes count k p (e ∷ events) o.place (event_of o) own common
-      by true true is_mine is_all q r =
+      by onward true true is_mine is_all q r =
           let same : own_access p e ≡ o = cc q in
           let rest : own_from count k (p + 1) events ≡ own = cc q in
           let at : o.place ≡ p = sym (ap (λ (x : OwnAccess). x.place) same) ∙ own_place p e in
@@ -176,9 +178,9 @@ module _ (count k : ℕ) where
             own_is = sym rest ∙ ap (λ n. own_from count k (n + 1) events) (sym at);
             common_is = r ∙ ap (λ n. common_from (n + 1) events) (sym at);
           }
-      by true false is_mine is_all q r = absurd (false≢true (sym is_all ∙ own_seen count k e is_mine))
-      by false true is_mine is_all q r = later p e events o.place (event_of o) own common (unseen count k e is_all is_mine) (next_own (p + 1) events o own common q r none)
-      by false false is_mine is_all q r =
+      by onward true false is_mine is_all q r = absurd (false≢true (sym is_all ∙ own_seen count k e is_mine))
+      by onward false true is_mine is_all q r = later p e events o.place (event_of o) own common (unseen count k e is_all is_mine) (onward q r)
+      by onward false false is_mine is_all q r =
           let before = subst (NoneBefore o.place) r none in
           let behind = first_own (p + 1) events o own q in
           absurd (omega (arith, before, behind))
@@ -187,21 +189,21 @@ module _ (count k : ℕ) where
   pub next_common : (p : ℕ) (events : List Event) (c : Placed) (own : List OwnAccess) (common : List Placed) → own ≡ own_from count k p events → common_from p events ≡ c ∷ common → BeginsBehind c.place own
       → Comes count k p events c.place c.event own common
   next_common p [] c own common is h behind = absurd (cc h)
-  next_common p (e ∷ events) c own common is h behind = by (is_own count k e) (is_routed e) refl refl is h
+  next_common p (e ∷ events) c own common is h behind = by (λ q r. next_common (p + 1) events c own common q r behind) (is_own count k e) (is_routed e) refl refl is h
     where
       placed_is : {x y : Placed} {xs ys : List Placed} → ◌≡◌ {A = List Placed} (x ∷ xs) (y ∷ ys) → (x ≡ y) × (xs ≡ ys)
       placed_is r = (cc r, cc r)
 
-      by : (mine all : Bool) → is_own count k e ≡ mine → is_routed e ≡ all → own ≡ (if mine then own_access p e ∷ own_from count k (p + 1) events else own_from count k (p + 1) events)
+      by : (own ≡ own_from count k (p + 1) events → common_from (p + 1) events ≡ c ∷ common → Comes count k (p + 1) events c.place c.event own common) → (mine all : Bool) → is_own count k e ≡ mine → is_routed e ≡ all → own ≡ (if mine then own_access p e ∷ own_from count k (p + 1) events else own_from count k (p + 1) events)
           → (if all then common_from (p + 1) events else (let x : Placed = record { place = p; event = e } in x) ∷ common_from (p + 1) events) ≡ c ∷ common → Comes count k p (e ∷ events) c.place c.event own common
-      by true true is_mine is_all q r =
+      by onward true true is_mine is_all q r =
           let le = first_common (p + 1) events c common r in
           let lt = subst (BeginsBehind c.place) q behind in
           let here = own_place p e in
           absurd (omega (arith, le, lt, here))
-      by true false is_mine is_all q r = absurd (false≢true (sym is_all ∙ own_seen count k e is_mine))
-      by false true is_mine is_all q r = later p e events c.place c.event own common (unseen count k e is_all is_mine) (next_common (p + 1) events c own common q r behind)
-      by false false is_mine is_all q r =
+      by onward true false is_mine is_all q r = absurd (false≢true (sym is_all ∙ own_seen count k e is_mine))
+      by onward false true is_mine is_all q r = later p e events c.place c.event own common (unseen count k e is_all is_mine) (onward q r)
+      by onward false false is_mine is_all q r =
           let same = (placed_is r).0 in
           let rest = (placed_is r).1 in
           let at : c.place ≡ p = sym (ap (λ (x : Placed). x.place) same) in
@@ -218,20 +220,23 @@ module _ (count k : ℕ) where
   -- nothing is next
   next_none : (p : ℕ) (events : List Event) → own_from count k p events ≡ [] → common_from p events ≡ [] → AllByRecursion (λ x. is_seen count k x ≡ false) events
   next_none p [] own common = tt
-  next_none p (e ∷ events) own common = by (is_own count k e) (is_routed e) refl refl own common
+  next_none p (e ∷ events) own common = by (next_none (p + 1) events) (is_own count k e) (is_routed e) refl refl own common
     where
-      by : (mine all : Bool) → is_own count k e ≡ mine → is_routed e ≡ all → (if mine then own_access p e ∷ own_from count k (p + 1) events else own_from count k (p + 1) events) ≡ []
+      by : (own_from count k (p + 1) events ≡ [] → common_from (p + 1) events ≡ [] → AllByRecursion (λ x. is_seen count k x ≡ false) events) → (mine all : Bool) → is_own count k e ≡ mine → is_routed e ≡ all → (if mine then own_access p e ∷ own_from count k (p + 1) events else own_from count k (p + 1) events) ≡ []
           → (if all then common_from (p + 1) events else (let x : Placed = record { place = p; event = e } in x) ∷ common_from (p + 1) events) ≡ [] → AllByRecursion (λ x. is_seen count k x ≡ false) (e ∷ events)
-      by true all is_mine is_all q r = absurd (cc q)
-      by false true is_mine is_all q r = (unseen count k e is_all is_mine, next_none (p + 1) events q r)
-      by false false is_mine is_all q r = absurd (cc r)
+      by onward true all is_mine is_all q r = absurd (cc q)
+      by onward false true is_mine is_all q r = (unseen count k e is_all is_mine, onward q r)
+      by onward false false is_mine is_all q r = absurd (cc r)
 
 -- ---- a batch by places
 
+drop_nil : {X : Type 0} (n : ℕ) → ◌≡◌ {A = List X} (drop n []) []
+drop_nil zero = refl
+drop_nil (suc n) = refl
+
 drop_drop : {X : Type 0} (g p : ℕ) (xs : List X) → drop g (drop p xs) ≡ drop (p + g) xs
 drop_drop g zero xs = ap (λ n. drop n xs) (let e : g ≡ 0 + g = omega arith in e)
-drop_drop zero (suc p) [] = refl
-drop_drop (suc g) (suc p) [] = refl
+drop_drop g (suc p) [] = drop_nil g ∙ sym (drop_nil (suc p + g))
 drop_drop g (suc p) (x ∷ xs) = drop_drop g p xs ∙ ap (λ n. drop n (x ∷ xs)) (let e : suc (p + g) ≡ suc p + g = omega arith in e)
 
 not_past : {X : Type 0} (p : ℕ) (xs : List X) (x : X) (rest : List X) → drop p xs ≡ x ∷ rest → p < length xs
@@ -368,3 +373,136 @@ module _ (old : Shard) (source first : ℕ) (events : List Event) (fits : first 
 
       whole_take : (n : ℕ) (xs : List Event) → n ≡ length xs → take n xs ≡ xs
       whole_take n xs is = ap (λ m. take m xs) is ∙ take-length xs
+
+-- ---- what is offered next
+
+capped : (n m : ℕ) → min (n + m) 18446744073709551615 ≡ counted_on n m
+capped n m = by (nat_lt (n + m) (2 ^ 64)) refl
+  where
+    by : (b : Bool) → nat_lt (n + m) (2 ^ 64) ≡ b → min (n + m) 18446744073709551615 ≡ (if b then n + m else 2 ^ 64 - 1)
+    by true is = let lt = ltb-true (n + m) (2 ^ 64) is in omega (arith, lt)
+    by false is = let le = ltb-false (n + m) (2 ^ 64) is in omega (arith, le)
+
+pub offers_next : (old between new : Shard) (source first gap place g p number : ℕ) (e : Event) (answer : Result Answer Refusal) (cause : Option Cause) → g ≡ gap → p ≡ place → number ≡ min (first + p) 18446744073709551615
+    → PassesOver old source g between → cause ≡ cause_of answer → AnswersShard between (record { source = source; number = number; event = e }) answer new
+    → PassesOthers between (record { source = source; number = number; event = e }) answer → WantsOwnRoom paged.ghosts between (record { source = source; number = number; event = e }) answer
+    → OffersNext old source gap (at_place source first place e) cause new
+offers_next old between new source first gap place g p number e answer cause is_gap is_place is_number over told answers passes grows =
+    let n : number ≡ counted_on first place = is_number ∙ capped first p ∙ ap (counted_on first) is_place in
+    record {
+      between = between;
+      over = subst (λ (x : ℕ). PassesOver old source x between) is_gap over;
+      answer = answer;
+      cause_is = told;
+      answers = subst (λ (x : ℕ). AnswersShard between (record { source = source; number = x; event = e }) answer new) n answers;
+      passes = subst (λ (x : ℕ). PassesOthers between (record { source = source; number = x; event = e }) answer) n passes;
+      grows = subst (λ (x : ℕ). WantsOwnRoom paged.ghosts between (record { source = source; number = x; event = e }) answer) n grows;
+    }
+
+pub first_of : {X : Type 0} (xs : List X) (d : X) → (length xs ≡ 0 → ⊥) → (rest : List X) × (xs ≡ get_or xs 0 d ∷ rest)
+first_of [] d some = absurd (some refl)
+first_of (x ∷ xs) d some = (xs, refl)
+
+pub none_of : {X : Type 0} (xs : List X) → length xs ≡ 0 → xs ≡ []
+none_of [] none = refl
+none_of (x ∷ xs) none = absurd (omega (arith, none))
+
+pub begins_behind : (place : ℕ) (own : List OwnAccess) → length own ≡ 0 → BeginsBehind place own
+begins_behind place [] none = tt
+begins_behind place (o ∷ own) none = absurd (omega (arith, none))
+
+pub none_before : (place : ℕ) (common : List Placed) → length common ≡ 0 → NoneBefore place common
+none_before place [] none = tt
+none_before place (c ∷ common) none = absurd (omega (arith, none))
+
+-- ---- the loop over the lists
+
+rest_of : {X : Type 0} (x : X) (xs ys : List X) → ys ≡ x ∷ xs → take (length ys - 1) (drop 1 ys) ≡ xs
+rest_of x xs ys is = ap (λ zs. take (length zs - 1) (drop 1 zs)) is ∙ ap (λ n. take n xs) (let e : suc (length xs) - 1 ≡ length xs = omega arith in e) ∙ take-length xs
+
+rest_on : (old s new : Shard) (source gap : ℕ) (n : Named) (cause : Option Cause) → s ≡ record old { detector = s.detector; log = s.log } → OffersNext s source gap n cause new
+    → new ≡ record old { detector = new.detector; log = new.log }
+rest_on old s new source gap n cause is o =
+    o.answers.rest ∙ ap (λ (x : Shard). record x { detector = new.detector; log = new.log }) (o.over.rest ∙ ap (λ (x : Shard). record x { detector = o.between.detector }) is)
+
+pub none_if : (x : Option Cause) → ((cause : Cause) → x ≡ Some cause → ⊥) → x ≡ None
+none_if None h = refl
+none_if (Some cause) h = absurd (h cause refl)
+
+module _ (old : Shard) (source first : ℕ) (own : List OwnAccess) (common : List Placed) (count : ℕ) (few : count < 2 ^ 32) where
+  -- what the loop keeps
+  abbrev pub Holds : ℕ → List OwnAccess → List Placed → Shard → Type 0
+  Holds next mine all s =
+      (s ≡ record old { detector = s.detector; log = s.log })
+      × IsReady s
+      × ((events : List Event) → own ≡ own_from old.count old.part 0 events → common ≡ common_from 0 events → count ≡ length events → first + length events ≤ 2 ^ 64
+      → IsUnderWay old source first events next mine all s)
+
+  module _ (next : ℕ) (mine : List OwnAccess) (all : List Placed) (s : Shard) (h : Holds next mine all s) (gap next' : ℕ) (cause : Option Cause) (new : Shard) where
+    module _ (o : OwnAccess) (rest : List OwnAccess) (is : mine ≡ o ∷ rest) (none : NoneBefore o.place all) (is_gap : gap ≡ o.place - next)
+        (given : OffersNext s source gap (at_place source first o.place (event_of o)) cause new) where
+      given_own : OffersNext s source (o.place - next) (at_place source first o.place (event_of o)) cause new
+      given_own = subst (λ (n : ℕ). OffersNext s source n (at_place source first o.place (event_of o)) cause new) is_gap given
+
+      pub seen_own : (mine' : List OwnAccess) → cause ≡ None → next' ≡ min (o.place + 1) 4294967295 → mine' ≡ take (length mine - 1) (drop 1 mine) → Holds next' mine' all new
+      seen_own mine' go next_is mine_is = (
+        rest_on old s new source gap _ cause h.0 given,
+        given.answers.ready,
+        λ events a b m f.
+            let w = h.2 events a b m f in
+            let c = next_own old.count old.part next (drop next events) o rest all (sym w.mine_is ∙ is) w.all_is none in
+            let lt = below old source first events f next mine all s w o.place (event_of o) rest all c new in
+            subst (λ (n : ℕ). IsUnderWay old source first events n mine' all new) (let z : o.place + 1 ≡ next' = omega (arith, next_is, lt, m, few) in z)
+            (subst (λ (xs : List OwnAccess). IsUnderWay old source first events (o.place + 1) xs all new) (sym (mine_is ∙ rest_of o rest mine is))
+            (went_on old source first events f next mine all s w o.place (event_of o) rest all c new cause given_own go)),
+      )
+
+      pub stop_own : (why : Cause) → cause ≡ Some why → TakesLists old source first own common count (Some (record { place = o.place; cause = why })) new
+      stop_own why told =
+          record {
+            rest = rest_on old s new source gap _ cause h.0 given;
+            ready = given.answers.ready;
+            takes = λ events a b m f.
+                let w = h.2 events a b m f in
+                let c = next_own old.count old.part next (drop next events) o rest all (sym w.mine_is ∙ is) w.all_is none in
+                stopped_there old source first events f next mine all s w o.place (event_of o) rest all c new cause given_own why told;
+          }
+
+    module _ (o : Placed) (rest : List Placed) (is : all ≡ o ∷ rest) (behind : BeginsBehind o.place mine) (is_gap : gap ≡ o.place - next)
+        (given : OffersNext s source gap (at_place source first o.place o.event) cause new) where
+      given_common : OffersNext s source (o.place - next) (at_place source first o.place o.event) cause new
+      given_common = subst (λ (n : ℕ). OffersNext s source n (at_place source first o.place o.event) cause new) is_gap given
+
+      pub seen_common : (all' : List Placed) → cause ≡ None → next' ≡ min (o.place + 1) 4294967295 → all' ≡ take (length all - 1) (drop 1 all) → Holds next' mine all' new
+      seen_common all' go next_is all_is = (
+        rest_on old s new source gap _ cause h.0 given,
+        given.answers.ready,
+        λ events a b m f.
+            let w = h.2 events a b m f in
+            let c = next_common old.count old.part next (drop next events) o mine rest w.mine_is (sym w.all_is ∙ is) behind in
+            let lt = below old source first events f next mine all s w o.place o.event mine rest c new in
+            subst (λ (n : ℕ). IsUnderWay old source first events n mine all' new) (let z : o.place + 1 ≡ next' = omega (arith, next_is, lt, m, few) in z)
+            (subst (λ (xs : List Placed). IsUnderWay old source first events (o.place + 1) mine xs new) (sym (all_is ∙ rest_of o rest all is))
+            (went_on old source first events f next mine all s w o.place o.event mine rest c new cause given_common go)),
+      )
+
+      pub stop_common : (why : Cause) → cause ≡ Some why → TakesLists old source first own common count (Some (record { place = o.place; cause = why })) new
+      stop_common why told =
+          record {
+            rest = rest_on old s new source gap _ cause h.0 given;
+            ready = given.answers.ready;
+            takes = λ events a b m f.
+                let w = h.2 events a b m f in
+                let c = next_common old.count old.part next (drop next events) o mine rest w.mine_is (sym w.all_is ∙ is) behind in
+                stopped_there old source first events f next mine all s w o.place o.event mine rest c new cause given_common why told;
+          }
+
+    pub end_lists : mine ≡ [] → all ≡ [] → gap ≡ count - next → PassesOver s source gap new → TakesLists old source first own common count None new
+    end_lists no_own no_common is_gap over =
+        record {
+          rest = over.rest ∙ ap (λ (x : Shard). record x { detector = new.detector }) h.0 ∙ ap (λ (l : Log). record old { detector = new.detector; log = l }) (sym (ap (λ (x : Shard). x.log) over.rest));
+          ready = over.ready;
+          takes = λ events a b m f.
+              ended old source first events f next mine all s (h.2 events a b m f) new no_own no_common
+              (subst (λ (n : ℕ). PassesOver s source n new) (is_gap ∙ ap (λ n. n - next) m) over);
+        }

@@ -72,6 +72,14 @@ fn has_room(list: &Vec<OwnAccess>) -> bool
     list.len() < list.capacity()
 }
 
+/// How many parts there are.
+#[inline(always)]
+fn count_parts(lists: &Vec<Vec<OwnAccess>>) -> usize
+    ensures { result ≡ length lists.now.items }
+{
+    lists.len()
+}
+
 /// Puts an access behind those of a part, where there is room.
 #[inline(always)]
 fn put(lists: &mut Vec<Vec<OwnAccess>>, part: usize, item: OwnAccess)
@@ -148,7 +156,7 @@ impl Routes {
         if self.count == u32::MAX {
             return false;
         }
-        let count = self.lists.len() as u64;
+        let count = count_parts(&self.lists) as u64;
         let more = u64::from(access.len) - 1;
         let first = part_of_page(count, access.at / PAGE_BYTES) as usize;
         let last = part_of_page(count, (access.at + more) / PAGE_BYTES) as usize;
@@ -193,7 +201,7 @@ impl Routes {
         ensures none { IsRouted [] self.new }
         ensures parts { parts_in self.new ≡ parts_in self.old }
     {
-        for k in 0..self.lists.len() {
+        for k in 0..count_parts(&self.lists) {
             self.lists[k].clear();
         }
         self.common.clear();
