@@ -1,6 +1,6 @@
 -- A shard that sees some events of a batch.
-use Rattle.std.proofs.Common.{◌≡◌, ⊎_elim, ℕ, zero, suc, ◌+◌, ◌-◌, ◌^◌, ◌<◌, ◌≤◌, Bool, true, false, nat_lt, List, [], ◌∷◌, ◌++◌, length, take, drop, reverse, slice_get, Option, Some, None, Result, Ok, Err, refl, sym, ap, ◌∙◌, subst, arith, append-nil, append_assoc, length-append}
-use Rattle.std.proofs.lemmas.Bool.{false≢true, cases_lt, lt-ltb, ltb-false}
+use Rattle.std.proofs.Common.{◌≡◌, ⊎_elim, ℕ, zero, suc, ◌+◌, ◌-◌, ◌^◌, ◌<◌, ◌≤◌, Bool, true, false, nat_lt, List, [], ◌∷◌, ◌++◌, length, take, drop, reverse, slice_get, Option, Some, Result, Ok, refl, sym, ap, ◌∙◌, subst, arith, append-nil, append_assoc, length-append}
+use Rattle.std.proofs.lemmas.Bool.{false≢true, cases_lt}
 use Rattle.std.proofs.lemmas.List.{reverse-append, length-reverse}
 use Rattle.std.specs.List.{AllByRecursion}
 use Rattle.std.specs.Prelude.{if◌then◌else◌}
@@ -9,7 +9,6 @@ use Rattle.hg_model.specs.declared.event.Named.{Named}
 use Rattle.hg_model.specs.declared.report.Report.{Report}
 use Rattle.hg_model.specs.declared.verdict.Refusal.{Refusal}
 use Rattle.hg_model.specs.declared.verdict.Refusal.TheVariants.{OutOfMemory}
-use Rattle.hg_model.specs.declared.verdict.Verdict.{Verdict}
 use Rattle.hg_model.specs.declared.verdict.Verdict.TheVariants.{Accept}
 use Rattle.hg_model.specs.Verdicts.{IsAccepted}
 use Rattle.hg_rules.specs.Counting.{counted_on}
@@ -17,15 +16,12 @@ use Rattle.hg_cells.specs.declared.paged.PagedWords.{PagedWords}
 use Rattle.hg_detect.specs.declared.detector.Answer.{Answer}
 use Rattle.hg_detect.specs.declared.detector.Answer.TheVariants as answers
 use Rattle.hg_detect.specs.declared.detector.Detector.{Detector}
-use Rattle.hg_detect.specs.Answering.{Applies}
 use Rattle.hg_detect.specs.Memory.{content_of}
-use Rattle.hg_detect.specs.Shown.{reports_of}
 use Rattle.hg_shards.specs.declared.shard.Shard.{Shard}
-use Rattle.hg_shards.specs.declared.shards.Stop.{Stop}
 use Rattle.hg_shards.specs.Asking.{has_set}
-use Rattle.hg_shards.specs.Following.{SeesUpto, TakesSeen, upto}
+use Rattle.hg_shards.specs.Following.{SeesUpto, upto}
 use Rattle.hg_shards.specs.Logging.{Log}
-use Rattle.hg_shards.specs.Sharding.{AnswersShard, ArePassed, AtEachEvent, Follows, GoesOn, HasMade, HasOwnSets, IsPassed, IsReady, Knows, LogsOwnSets, MovesOn, PassesOver, own_words, reports_of_group, verdict_after}
+use Rattle.hg_shards.specs.Sharding.{AnswersShard, ArePassed, Follows, GoesOn, HasMade, HasOwnSets, IsPassed, IsReady, Knows, MovesOn, PassesOver, own_words, reports_of_group, verdict_after}
 use Rattle.hg_shards.proofs.Batches.{one_onto}
 use Rattle.hg_shards.proofs.Logging.{all_both, all_weaker}
 use Rattle.hg_shards.proofs.Noting.{accept_of, at_each}
@@ -86,6 +82,7 @@ passed_on trace events s new source count limit p le each ok k own ready =
   where
     known : Knows (own_words s) (reverse events ++ trace) (counted (content_of s.detector) source (length events))
     known = knows_all (own_words s) source events trace (content_of s.detector) each ok k
+
     sets : HasOwnSets limit (reverse events ++ trace) s
     sets = sets_all s limit source events trace (subst (λ (n : ℕ). AllByRecursion (λ e. e ≤ n) s.log.events) (sym k.content.events) ready.log.past) each ok own
 

@@ -1,5 +1,5 @@
 -- What stays where a detector goes on.
-use Rattle.std.proofs.Common.{◌≡◌, ℕ, ◌+◌, ◌<◌, ◌≤◌, Bool, true, false, List, [], ◌∷◌, ◌++◌, filter, map, take, Result, refl, sym, ap, ◌∙◌, arith, append-nil, append_assoc}
+use Rattle.std.proofs.Common.{◌≡◌, ℕ, ◌+◌, ◌<◌, ◌≤◌, Bool, true, false, List, [], ◌∷◌, ◌++◌, filter, map, take, Result, refl, sym, ap, ◌∙◌, arith, append-nil}
 use Rattle.std.specs.List.{AllByRecursion}
 use Rattle.std.specs.Prelude.{if◌then◌else◌}
 use Rattle.hg_model.specs.declared.event.Access.{Access}
@@ -8,12 +8,12 @@ use Rattle.hg_model.specs.declared.event.Event.TheVariants.{Read, Write}
 use Rattle.hg_model.specs.declared.event.Named.{Named}
 use Rattle.hg_model.specs.declared.report.Report.{Report}
 use Rattle.hg_model.specs.declared.verdict.Refusal.{Refusal}
-use Rattle.hg_model.specs.Change.{after, becomes_racy, new_reports, word_after}
+use Rattle.hg_model.specs.Change.{after, becomes_racy, new_reports}
 use Rattle.hg_model.specs.Contents.{Content}
 use Rattle.hg_model.specs.Reporting.{words_of}
 use Rattle.hg_cells.specs.declared.words.Words as words
 use Rattle.hg_detect.specs.declared.detector.Answer.{Answer}
-use Rattle.hg_detect.specs.Answering.{AnswersOffer, AnswersPass, PassesAll, after_passing, is_accepted}
+use Rattle.hg_detect.specs.Answering.{AnswersOffer, AnswersPass, after_passing, is_accepted}
 use Rattle.hg_detect.specs.Engine.{AtPresent}
 use Rattle.hg_detect.specs.Shown.{ShownDetector, content, reports_of}
 use Rattle.hg_shards.proofs.Logging.{all_weaker}

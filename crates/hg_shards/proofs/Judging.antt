@@ -40,7 +40,7 @@ use Rattle.hg_shards.specs.Filling.{AreShardsFrom, IsFirstFull, is_found_by}
 use Rattle.hg_shards.specs.Following.{upto}
 use Rattle.hg_shards.specs.Judging.{Accepts, AcceptsAll, AreAllParts, ArePartsFrom, HasJudged, IsAt, IsFullAt, IsPart, Judges, KnowsTrace, LeadsBy, StopsAt, StopsFor}
 use Rattle.hg_shards.specs.Stopping.{accepted_of, is_for_memory, one_stop, wants_memory}
-use Rattle.hg_shards.specs.Sharding.{AtEachEvent, BeginsFor, Follows, GoesOn, HasMade, LogsOwnSets, own_words, verdict_after}
+use Rattle.hg_shards.specs.Sharding.{AtEachEvent, BeginsFor, GoesOn, HasMade, own_words, verdict_after}
 use Rattle.hg_shards.proofs.Asking.{sets_are_lem}
 use Rattle.hg_shards.proofs.Batches.{one_onto}
 use Rattle.hg_shards.proofs.Following.{earlier_accepted, follows_on, moves_on}

@@ -1,18 +1,16 @@
 -- Accesses of other parts, passed over at once.
-use Rattle.std.proofs.Common.{◌≡◌, ℕ, zero, suc, ◌+◌, ◌-◌, ◌^◌, ◌<◌, ◌≤◌, ◌&&◌, nat_eq, nat_le, nat_lt, Bool, true, false, cond, List, [], ◌∷◌, ◌++◌, length, take, reverse, refl, sym, ap, ◌∙◌, subst, arith, append-nil, append_assoc, length-append}
+use Rattle.std.proofs.Common.{◌≡◌, ℕ, suc, ◌+◌, ◌-◌, ◌^◌, ◌<◌, ◌≤◌, ◌&&◌, nat_le, Bool, true, false, List, [], ◌∷◌, ◌++◌, length, reverse, refl, sym, ap, ◌∙◌, subst, arith, append-nil, append_assoc}
 use Rattle.std.proofs.lemmas.Bool.{false≢true, leb-false, lt-ltb, ltb-false, or_parts}
 use Rattle.std.proofs.lemmas.List.Sums.{count_by-le-length}
-use Rattle.std.proofs.lemmas.List.{reverse-append, length-reverse}
+use Rattle.std.proofs.lemmas.List.{reverse-append}
 use Rattle.std.specs.List.{AllByRecursion, flat_map}
-use Rattle.std.specs.Prelude.{◌==◌, if◌then◌else◌, slice_index, count_by}
+use Rattle.std.specs.Prelude.{◌==◌, if◌then◌else◌, slice_index}
 use Rattle.hg_model.specs.declared.event.Event.{Event}
 use Rattle.hg_model.specs.declared.event.Event.TheVariants.{Read, Write, Alloc, Free, Fork, Join, Lock, RdLock, Unlock, Send, Recv}
 use Rattle.hg_model.specs.declared.event.Named.{Named}
-use Rattle.hg_model.specs.declared.verdict.Verdict.TheVariants.{Accept}
-use Rattle.hg_model.specs.Contents.{Content, events_of, last_of_source, summary}
+use Rattle.hg_model.specs.Contents.{Content, events_of, summary}
 use Rattle.hg_model.specs.Change.{word_after}
-use Rattle.hg_model.specs.Parts.{Parts}
-use Rattle.hg_model.specs.Verdicts.{IsAccepted, actor, bad_number, is_bad_source, is_bad_thread, standing_of}
+use Rattle.hg_model.specs.Verdicts.{IsAccepted, bad_number, is_bad_source, is_bad_thread, standing_of}
 use Rattle.hg_model.proofs.Accepted.{no_cause}
 use Rattle.hg_rules.specs.Counting.{counted_on}
 use Rattle.hg_cells.specs.declared.paged.PagedWords.{PagedWords}
@@ -24,7 +22,7 @@ use Rattle.hg_detect.specs.Shown.{reports_of}
 use Rattle.hg_shards.specs.Alike.{PassesBy, is_of_memory}
 use Rattle.hg_shards.specs.Asking.{HasSets, asked, asked_at_last, has_set}
 use Rattle.hg_shards.specs.Logging.{made_by}
-use Rattle.hg_shards.specs.Sharding.{ArePassed, Follows, HasMade, HasOwnSets, IsLogOf, IsPassed, IsReady, Knows, PassesOver, made_in, own_words}
+use Rattle.hg_shards.specs.Sharding.{HasOwnSets, IsPassed, IsReady, Knows, PassesOver, own_words}
 use Rattle.hg_shards.specs.declared.shard.Shard.{Shard}
 use Rattle.hg_shards.proofs.Asking.{sets_are_lem}
 use Rattle.hg_shards.proofs.Going.{reports_stay}

@@ -26,7 +26,7 @@ use Rattle.hg_shards.specs.Parts.{by_page}
 use Rattle.hg_shards.specs.Reading.{IsNextPart, ReadsNext, count_of_part, heads_upto, place_upto}
 use Rattle.hg_shards.specs.Sharding.{GoesOn, page_part, words_of}
 use Rattle.hg_shards.proofs.Merging.{among, each_filter, front_is_first}
-use Rattle.hg_shards.proofs.Order.{each_both, each_weaker}
+use Rattle.hg_shards.proofs.Order.{each_weaker}
 use Rattle.hg_shards.proofs.Parts.{each_dropped, each_in_front, flat_same, number_among, numbers_rise, rises_front, shares_make_the_whole_lem, take_over}
 use Rattle.hg_shards.proofs.Rising.{early, reports_rise_lem}
 use Rattle.hg_shards.proofs.Taking.{IsBest, best_is_next, best_is_none, best_none, best_changes, best_stays, wins_never_itself}

@@ -1,5 +1,5 @@
 -- A batch in lists, offered to the shards of all parts.
-use Rattle.std.proofs.Common.{◌≡◌, ℕ, zero, suc, ◌+◌, ◌^◌, ◌<◌, ◌≤◌, get_or, slice_set, All, Bool, true, false, List, [], ◌∷◌, ◌++◌, take, drop, length, map, Option, Some, None, Vec, Result, Ok, Err, refl, sym, ap, ◌∙◌, subst, arith}
+use Rattle.std.proofs.Common.{◌≡◌, ℕ, ◌+◌, ◌^◌, ◌<◌, ◌≤◌, get_or, slice_set, All, Bool, true, false, List, [], ◌∷◌, ◌++◌, take, drop, length, map, Option, Some, None, Vec, Result, Ok, Err, refl, sym, ap, ◌∙◌, subst, arith}
 use Rattle.std.proofs.lemmas.Bool.{eq-eqb}
 use Rattle.std.proofs.lemmas.Nat.{mod_below}
 use Rattle.std.proofs.lemmas.List.{get_or-map, length-map, map-append, take-append-drop}
@@ -7,7 +7,6 @@ use Rattle.std.proofs.lemmas.Option.{slice_get_within}
 use Rattle.std.proofs.lemmas.List.Elements.{All-append, All-drop, All-from_recursion, All-take}
 use Rattle.std.specs.List.{AllByRecursion, range_with_len}
 use Rattle.std.specs.Prelude.{IfOk, ◌-◌, ◌/◌, ◌&&◌, ◌||◌, ◌==◌, not}
-use Rattle.hg_model.specs.declared.event.Access.{Access}
 use Rattle.hg_model.specs.declared.event.Event.{Event}
 use Rattle.hg_model.specs.declared.event.Event.TheVariants.{Read, Write}
 use Rattle.hg_model.specs.declared.event.Named.{Named}
@@ -23,8 +22,7 @@ use Rattle.hg_shards.specs.declared.shard.Shard.{Shard}
 use Rattle.hg_shards.specs.declared.shards.Stop.{Stop}
 use Rattle.hg_shards.specs.Batches.{TakeBatch, earlier_stop, first_stop}
 use Rattle.hg_shards.specs.Following.{TakesSeen, named, upto}
-use Rattle.hg_shards.specs.Judging.{AreAllParts, ArePartsFrom, Concludes, IsAt, IsPart, Judges, JudgesRoutes, KnowsTrace}
-use Rattle.hg_shards.specs.Pushing.{IsRouted, lists_of, parts_in}
+use Rattle.hg_shards.specs.Judging.{ArePartsFrom, Concludes, IsAt, IsPart, Judges, JudgesRoutes, KnowsTrace}
 use Rattle.hg_shards.specs.Routed.{EachLists, TakeLists}
 use Rattle.hg_shards.specs.Filling.{IsFirstFull}
 use Rattle.hg_shards.specs.Routing.{common_from, is_routed, is_seen, items_of, own_from, own_lists}
@@ -33,7 +31,7 @@ use Rattle.hg_shards.specs.Sharding.{GoesOn, IsReady, page_part}
 use Rattle.hg_shards.specs.Stopping.{accepted_of, one_stop}
 use Rattle.hg_shards.proofs.Batches.{earlier_none, first_of_both}
 use Rattle.hg_shards.proofs.Following.{moves_on}
-use Rattle.hg_shards.proofs.Judging.{EachEnds, Ends, IsBatch, StoppedBy, judges_by, judges_lem}
+use Rattle.hg_shards.proofs.Judging.{EachEnds, Ends, StoppedBy, judges_by, judges_lem}
 use Rattle.hg_shards.proofs.Seeing.{named_length}
 
 -- ---- several shards

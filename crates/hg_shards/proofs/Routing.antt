@@ -1,10 +1,10 @@
 -- Events in the lists of the parts.
-use Rattle.std.proofs.Common.{◌≡◌, ⊎_elim, inl, inr, ℕ, zero, suc, ◌+◌, ◌-◌, ◌*◌, ◌/◌, ◌^◌, ◌<◌, ◌≤◌, nat_eq, nat_le, nat_lt, Bool, true, false, cond, not, ◌&&◌, ◌||◌, List, [], ◌∷◌, ◌++◌, length, map, set, get_or, replicate, refl, sym, ap, ◌∙◌, subst, arith, append-nil, eqb-true, length-set, slice_get, Option, Some, None, Vec, vec_capacity}
+use Rattle.std.proofs.Common.{◌≡◌, ⊎_elim, ℕ, zero, suc, ◌+◌, ◌-◌, ◌/◌, ◌<◌, ◌≤◌, nat_lt, Bool, true, false, not, ◌&&◌, ◌||◌, List, [], ◌∷◌, ◌++◌, length, map, set, get_or, replicate, refl, sym, ap, ◌∙◌, subst, arith, append-nil, eqb-true, length-set, slice_get, Vec, vec_capacity}
 use Rattle.std.proofs.lemmas.Bool.{false≢true, cases_lt, eq-eqb, ltb-false, ltb-true, ne_eqb}
 use Rattle.std.proofs.lemmas.Grind.{get_or-set_at}
 use Rattle.std.proofs.lemmas.Option.{get_or_from_slice_get, slice_get-get_or}
 use Rattle.std.proofs.lemmas.List.{get_or-set_other, get_or-map, length-map, length-replicate, length_push, map-set}
-use Rattle.std.proofs.lemmas.List.FromFn.{get_or-map-range_with_len, length-map-range_with_len}
+use Rattle.std.proofs.lemmas.List.FromFn.{get_or-map-range_with_len}
 use Rattle.std.specs.List.{range_with_len}
 use Rattle.std.specs.Prelude.{◌==◌, if◌then◌else◌}
 use Rattle.hg_model.specs.declared.event.Event.{Event}
@@ -14,7 +14,7 @@ use Rattle.hg_model.specs.Accessing.{access_event}
 use Rattle.hg_shards.specs.declared.routes.OwnAccess.{OwnAccess}
 use Rattle.hg_shards.specs.declared.routes.Placed.{Placed}
 use Rattle.hg_shards.specs.declared.routes.Routes.{Routes}
-use Rattle.hg_shards.specs.Pushing.{IsRouted, LacksRoom, Pushes, lists_of, parts_in}
+use Rattle.hg_shards.specs.Pushing.{IsRouted, Pushes, lists_of, parts_in}
 use Rattle.hg_shards.specs.Routing.{HasRoomAt, common_from, is_own, is_routed, items_of, own_access, own_from, own_lists, touches_part, with_own}
 use Rattle.hg_shards.specs.Sharding.{page_part}
 
@@ -51,7 +51,7 @@ own_more count k place [] e = ap (λ n. if is_own count k e then own_access n e 
 own_more count k place (x ∷ events) e =
     let rest = own_more count k (place + 1) events e ∙ ap (λ n. own_from count k (place + 1) events ++ (if is_own count k e then own_access n e ∷ [] else [])) (let z : place + 1 + length events ≡ place + suc (length events) = omega arith in z) in
     elim (is_own count k x) as (λ b. (if b then own_access place x ∷ own_from count k (place + 1) (events ++ e ∷ []) else own_from count k (place + 1) (events ++ e ∷ []))
-        ≡ (if b then own_access place x ∷ own_from count k (place + 1) events else own_from count k (place + 1) events) ++ (if is_own count k e then own_access (place + suc (length events)) e ∷ [] else [])) [
+    ≡ (if b then own_access place x ∷ own_from count k (place + 1) events else own_from count k (place + 1) events) ++ (if is_own count k e then own_access (place + suc (length events)) e ∷ [] else [])) [
       | true ↦ ap (λ (items : List OwnAccess). own_access place x ∷ items) rest
       | false ↦ rest
     ]
@@ -62,7 +62,7 @@ common_more place [] e = ap (λ n. if is_routed e then [] else (let p : Placed =
 common_more place (x ∷ events) e =
     let rest = common_more (place + 1) events e ∙ ap (λ n. common_from (place + 1) events ++ (if is_routed e then [] else (let p : Placed = record { place = n; event = e } in p) ∷ [])) (let z : place + 1 + length events ≡ place + suc (length events) = omega arith in z) in
     elim (is_routed x) as (λ b. (if b then common_from (place + 1) (events ++ e ∷ []) else (let p : Placed = record { place = place; event = x } in p) ∷ common_from (place + 1) (events ++ e ∷ []))
-        ≡ (if b then common_from (place + 1) events else (let p : Placed = record { place = place; event = x } in p) ∷ common_from (place + 1) events) ++ (if is_routed e then [] else (let p : Placed = record { place = place + suc (length events); event = e } in p) ∷ [])) [
+    ≡ (if b then common_from (place + 1) events else (let p : Placed = record { place = place; event = x } in p) ∷ common_from (place + 1) events) ++ (if is_routed e then [] else (let p : Placed = record { place = place + suc (length events); event = e } in p) ∷ [])) [
       | true ↦ rest
       | false ↦ ap (λ (items : List Placed). (let p : Placed = record { place = place; event = x } in p) ∷ items) rest
     ]

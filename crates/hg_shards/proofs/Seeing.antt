@@ -1,6 +1,6 @@
 -- What comes next of the lists of a part, and what is passed over before it.
-use Rattle.std.proofs.Common.{◌≡◌, get_or, min, ℕ, zero, suc, ◌+◌, ◌-◌, ◌*◌, ◌/◌, ◌^◌, ◌<◌, ◌≤◌, nat_eq, nat_lt, Bool, true, false, cond, not, ◌&&◌, ◌||◌, List, [], ◌∷◌, ◌++◌, length, take, drop, slice_get, Option, Some, None, Result, Ok, refl, sym, ap, ◌∙◌, subst, arith, length-append, eqb-true}
-use Rattle.std.proofs.lemmas.Bool.{false≢true, lt-ltb, le-leb, lt-leb, le-ltb, or_parts, and_parts, eqb-false, ltb-false, ltb-true}
+use Rattle.std.proofs.Common.{◌≡◌, get_or, min, ℕ, zero, suc, ◌+◌, ◌-◌, ◌*◌, ◌/◌, ◌^◌, ◌<◌, ◌≤◌, nat_lt, Bool, true, false, not, ◌&&◌, ◌||◌, List, [], ◌∷◌, length, take, drop, slice_get, Option, Some, None, Result, refl, sym, ap, ◌∙◌, subst, arith, eqb-true}
+use Rattle.std.proofs.lemmas.Bool.{false≢true, or_parts, and_parts, eqb-false, ltb-false, ltb-true}
 use Rattle.std.proofs.Math.Seq.{take-length}
 use Rattle.std.specs.List.{AllByRecursion}
 use Rattle.std.specs.Prelude.{◌==◌, if◌then◌else◌}
@@ -9,19 +9,16 @@ use Rattle.hg_model.specs.declared.event.Event.{Event}
 use Rattle.hg_model.specs.declared.event.Event.TheVariants.{Read, Write}
 use Rattle.hg_model.specs.declared.event.Named.{Named}
 use Rattle.hg_model.specs.declared.verdict.Refusal.{Refusal}
-use Rattle.hg_model.specs.Accessing.{access_event}
 use Rattle.hg_model.specs.History.{overlaps}
-use Rattle.hg_model.specs.Verdicts.{bad_length, passes_end, past_address_end}
+use Rattle.hg_model.specs.Verdicts.{passes_end}
 use Rattle.hg_rules.specs.Counting.{counted_on}
 use Rattle.hg_detect.specs.declared.detector.Answer.{Answer}
-use Rattle.hg_detect.specs.declared.detector.Answer.TheVariants as answers
 use Rattle.hg_shards.specs.declared.routes.OwnAccess.{OwnAccess}
 use Rattle.hg_shards.specs.declared.routes.Placed.{Placed}
 use Rattle.hg_shards.specs.declared.shard.Shard.{Shard}
 use Rattle.hg_shards.specs.declared.shards.Cause.{Cause}
-use Rattle.hg_shards.specs.declared.shards.Stop.{Stop}
-use Rattle.hg_shards.specs.Alike.{PassesBy, ReadBy, Touch, Untouched, WrittenBy, is_of_memory, touch}
-use Rattle.hg_shards.specs.Batches.{RefusesAs, StopsAs, cause_of}
+use Rattle.hg_shards.specs.Alike.{PassesBy, ReadBy, Touch, Untouched, WrittenBy}
+use Rattle.hg_shards.specs.Batches.{cause_of}
 use Rattle.hg_shards.specs.Following.{SeesUpto, TakesSeen, named}
 use Rattle.hg_shards.specs.Logging.{Log}
 use Rattle.hg_shards.specs.Routing.{common_from, is_own, is_routed, is_seen, own_access, own_from, touches_part}

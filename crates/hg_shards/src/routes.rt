@@ -96,12 +96,7 @@ impl Routes {
 
     /// No events, for so many parts. There is room for `own` accesses in the list of each part, and for `common` events that all parts
     /// see.
-    pub fn new(
-        alloc: Global,
-        parts: usize,
-        own: usize,
-        common: usize,
-    ) -> Result<Self, AllocError>
+    pub fn new(alloc: Global, parts: usize, own: usize, common: usize) -> Result<Self, AllocError>
         requires { 1 ≤ parts }
         ensures none { IfOk result (IsRouted []) }
         ensures parts { IfOk result (λ r. parts_in r ≡ parts) }

@@ -1,4 +1,4 @@
-use Rattle.std.proofs.Common.{◌≡◌, false, length, sym, ◌∙◌, eqb-true}
+use Rattle.std.proofs.Common.{length, sym, ◌∙◌, eqb-true}
 use Rattle.std.proofs.lemmas.Bool.{eqb-false}
 use Rattle.hg_shards.proofs.Seeing.{begins_behind, first_of, none_before}
 use Rattle.hg_shards.proofs.lists.next_seen.Goals as goal

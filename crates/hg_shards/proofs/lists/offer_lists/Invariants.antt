@@ -1,4 +1,4 @@
-use Rattle.std.proofs.Common.{◌≡◌, ℕ, ◌+◌, ◌^◌, ◌≤◌, List, length}
+use Rattle.std.proofs.Common.{◌≡◌, ◌+◌, ◌^◌, ◌≤◌, List, length}
 use Rattle.hg_model.specs.declared.event.Event.{Event}
 use Rattle.hg_shards.specs.Routing.{common_from, own_from}
 use Rattle.hg_shards.specs.Sharding.{IsReady}

@@ -1,4 +1,4 @@
-use Rattle.std.proofs.Common.{◌≡◌, ◌+◌, ◌-◌, ◌/◌, ◌<◌, inr, refl, sym, ap, ◌∙◌, subst}
+use Rattle.std.proofs.Common.{◌+◌, ◌-◌, ◌/◌, ◌<◌, inr, refl, sym, ap, ◌∙◌, subst}
 use Rattle.hg_model.specs.Accessing.{access_event}
 use Rattle.hg_shards.specs.Pushing.{parts_in}
 use Rattle.hg_shards.specs.Sharding.{page_part}
