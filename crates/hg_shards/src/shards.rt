@@ -141,7 +141,7 @@ fn offer_lists_side_by_side<T: Threads + Sync>(
     let half = shards.len() / 2;
     let (left, right) = lists.split_at(half);
     let (front, back) = shards.split_at_mut(half);
-    let (one, other) = join_mut(
+    let (front_stop, back_stop) = join_mut(
         rt,
         &mut || -> Option<Stop>
             requires crosses { IsSync T.row }
@@ -156,7 +156,7 @@ fn offer_lists_side_by_side<T: Threads + Sync>(
             ensures { TakeLists source first common.entry.now count back.entry.now (items_of right.entry.now) result back.exit.now }
         { offer_lists_side_by_side(rt, source, first, right, common, count, back) },
     );
-    earlier(one, other)
+    earlier(front_stop, back_stop)
 }
 
 /// A shard for each part of a trace, in order.

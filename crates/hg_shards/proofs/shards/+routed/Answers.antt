@@ -13,8 +13,8 @@ returns-then-shards-eq1 g t c =
 
 pub returns : goal.returns
 returns g t c =
-    let front : TakeLists c.args.source c.args.first c.args.common.now c.args.count c.split_at_mut-front.result.0.now (items_of c.split_at.result.0.now) c.join_mut-one.result.0 c.front-1.given.0 = search rules in
-    let back : TakeLists c.args.source c.args.first c.args.common.now c.args.count c.split_at_mut-front.result.1.now (items_of c.split_at.result.1.now) c.join_mut-one.result.1 c.back-1.given.0 = search rules in
+    let front : TakeLists c.args.source c.args.first c.args.common.now c.args.count c.split_at_mut-front.result.0.now (items_of c.split_at.result.0.now) c.join_mut-front_stop.result.0 c.front-1.given.0 = search rules in
+    let back : TakeLists c.args.source c.args.first c.args.common.now c.args.count c.split_at_mut-front.result.1.now (items_of c.split_at.result.1.now) c.join_mut-front_stop.result.1 c.back-1.given.0 = search rules in
     lists_halves c.args.source c.args.first c.args.common.now c.args.count c.args.shards.now c.split_at_mut-front.result.0.now c.split_at_mut-front.result.1.now (items_of c.args.lists.now)
-    (items_of c.split_at.result.0.now) (items_of c.split_at.result.1.now) c.earlier.result c.join_mut-one.result.0 c.join_mut-one.result.1 c.front-1.given.0 c.back-1.given.0 c.split_at_mut-front.ensures.value
+    (items_of c.split_at.result.0.now) (items_of c.split_at.result.1.now) c.earlier.result c.join_mut-front_stop.result.0 c.join_mut-front_stop.result.1 c.front-1.given.0 c.back-1.given.0 c.split_at_mut-front.ensures.value
     (halves_of _ c.args.lists.now c.split_at.result.0.now c.split_at.result.1.now c.split_at.ensures.front c.split_at.ensures.back) c.earlier.ensures front back
