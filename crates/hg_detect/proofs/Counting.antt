@@ -14,6 +14,7 @@ use Rattle.hg_model.specs.Contents.{Content}
 use Rattle.hg_model.specs.Messages.{Agrees}
 use Rattle.hg_model.specs.Parts.{HasParts, Parts}
 use Rattle.hg_model.specs.Verdicts.{Standing, standing, standing_of, verdict}
+use Rattle.hg_rules.specs.Counting.{CountsAccesses}
 use Rattle.hg_cells.specs.declared.cell.Cell.{Cell}
 use Rattle.hg_cells.specs.declared.words.Words as words
 use Rattle.hg_detect.specs.declared.detector.Answer.{Answer}
@@ -101,3 +102,17 @@ pass_refused g e d source number a answer sound shows is not_accepted =
 pub handed_on : (answer given : Result Answer Refusal) (r : Refusal) → IsErrAnd answer (λ x. x ≡ r) → Err r ≡ given → answer ≡ given
 handed_on (Ok a) given r refused h = absurd refused
 handed_on (Err x) given r refused h = ap (λ (y : Refusal). Err y) refused ∙ h
+
+-- The parts still agree after accesses that were counted.
+pub passing_all_sound : {W : Type 0} (old : Engine W) (state : Parts) (source count : ℕ) → IsSound old → CountsAccesses old.state source count state → IsSound (record old { state = state })
+passing_all_sound old state source count sound counts =
+    record {
+      segments = ap (λ (p : Parts). p.segments) counts.rest ∙ sound.segments;
+      threads = λ t. ap (λ (p : Parts). started p.threads t) counts.rest ∙ sound.threads t;
+      messages = subst (λ (p : Parts). Agrees old.graph p.messages) (sym counts.rest) sound.messages;
+      sets = sound.sets;
+      reports = sound.reports;
+      few = sound.few;
+      total = let t = sound.total in let e = counts.never_less in omega arith;
+      plan = sound.plan;
+    }

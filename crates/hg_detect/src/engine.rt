@@ -7,6 +7,7 @@ ghost use Rattle.hg_model.specs.Segments.{of_thread};
 ghost use Rattle.hg_model.specs.Messages.{Agrees};
 ghost use Rattle.hg_model.specs.Parts.{HasParts};
 ghost use Rattle.hg_model.specs.Accessing.{MayAccess, access_event};
+ghost use Rattle.hg_rules.specs.Counting.{CountsAccesses};
 ghost use Rattle.hg_model.specs.Holding.{hold_named};
 ghost use Rattle.hg_model.specs.Change.{empty_content};
 ghost use Rattle.hg_model.specs.Verdicts.{MayBeNext};
@@ -323,6 +324,17 @@ impl<W: Words> Engine<W> {
         ensures content { content W.cell_of (shown_of self.new) ≡ after_passing (content W.cell_of (shown_of self.old)) source }
     {
         self.state.follow_access(source, number);
+    }
+
+    /// Counts so many accesses of a source at once, and does nothing else of them.
+    #[inline(always)]
+    pub(crate) fn pass_all(&mut self, source: u16, count: u64)
+        requires sound { IsSound self.old }
+        ensures sound { IsSound self.new }
+        ensures rest { self.new ≡ record self.old { state = self.new.state } }
+        ensures counts { CountsAccesses self.old.state source count self.new.state }
+    {
+        self.state.follow_accesses(source, count);
     }
 
     /// Accepts an alloc or a free of a block: its words become new.

@@ -1,3 +1,4 @@
 pub mod Tables
 pub mod Judging
 pub mod Messages
+pub mod Counting

@@ -12,6 +12,7 @@ ghost use Rattle.hg_model.specs.Accessing.{MayAccess, access_named};
 ghost use Rattle.hg_model.specs.Holding.{hold_named};
 ghost use Rattle.hg_model.specs.declared.event.Access.{Access};
 ghost use Rattle.hg_model.specs.Messages.{at};
+ghost use Rattle.hg_rules.specs.Counting.{CountsAccesses};
 ghost use Rattle.hg_rules.specs.Messages.{mark_of, room_for};
 
 use crate::messages::MessageTable;
@@ -185,6 +186,19 @@ impl TraceState {
     {
         self.events += 1;
         self.last[usize::from(source)] = number;
+    }
+
+    /// Counts so many reads and writes of a source at once, one after another, without a look at them: they change only the counts,
+    /// which stay below 2^64. It takes no memory.
+    #[inline(always)]
+    pub fn follow_accesses(&mut self, source: u16, count: u64)
+        ensures { CountsAccesses self.old source count self.new }
+    {
+        self.events = self.events.saturating_add(count);
+        let place = usize::from(source);
+        if place < SOURCE_NUMBERS {
+            self.last[place] = self.last[place].saturating_add(count);
+        }
     }
 
     /// Counts an accepted hold, and changes the locks of its thread. It takes no memory.

@@ -90,7 +90,7 @@ module _ (a b c : Stop) where
       let r = nat_lt c.place a.place in
       by_last p q r refl refl refl ∙ alike p q r refl refl refl ∙ sym (by_first p q r refl refl refl)
 
-earlier_none : (a : Option Stop) → earlier_stop a None ≡ a
+pub earlier_none : (a : Option Stop) → earlier_stop a None ≡ a
 earlier_none None = refl
 earlier_none (Some a) = refl
 
@@ -100,7 +100,7 @@ earlier_of_three (Some a) None c = refl
 earlier_of_three (Some a) (Some b) None = sym (earlier_none (earlier_stop (Some a) (Some b)))
 earlier_of_three (Some a) (Some b) (Some c) = three a b c
 
-first_of_both : (stops others : List (Option Stop)) → first_stop (stops ++ others) ≡ earlier_stop (first_stop stops) (first_stop others)
+pub first_of_both : (stops others : List (Option Stop)) → first_stop (stops ++ others) ≡ earlier_stop (first_stop stops) (first_stop others)
 first_of_both [] others = refl
 first_of_both (stop ∷ stops) others = ap (earlier_stop stop) (first_of_both stops others) ∙ earlier_of_three stop (first_stop stops) (first_stop others)
 

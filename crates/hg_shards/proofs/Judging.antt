@@ -1,11 +1,12 @@
 -- All parts of a trace as one detector, which judges batches of events.
-use Rattle.std.proofs.Common.{◌≡◌, ◌⊎◌, ⊎_elim, inl, inr, ℕ, zero, suc, ◌+◌, ◌-◌, ◌<◌, ◌≤◌, Bool, true, false, cond, ◌&&◌, nat_eq, nat_le, nat_lt, List, [], ◌∷◌, ◌++◌, length, take, reverse, filter, get_or, slice_get, Option, Some, None, Result, Ok, Err, refl, sym, ap, ◌∙◌, subst, arith, append_assoc, length-append, ltb-true}
+use Rattle.std.proofs.Common.{◌≡◌, ◌⊎◌, ⊎_elim, inl, inr, ℕ, zero, suc, ◌+◌, ◌-◌, ◌<◌, ◌≤◌, Bool, true, false, cond, ◌&&◌, nat_eq, nat_le, nat_lt, List, [], ◌∷◌, ◌++◌, length, take, reverse, filter, get_or, slice_get, Option, Some, None, Result, Ok, Err, refl, sym, ap, ◌∙◌, subst, arith, append-nil, append_assoc, length-append, ltb-true, ◌/◌}
 use Rattle.std.proofs.Math.Seq.{take-length}
-use Rattle.std.proofs.lemmas.Bool.{false≢true, lt-leb, leb-true, leb-false, le-ltb, ltb-false, lt-ltb, or_left, or_right, or_cases, le-leb}
-use Rattle.std.proofs.lemmas.List.{reverse-append, length-reverse, length-take-le}
+use Rattle.std.proofs.lemmas.Bool.{false≢true, lt-leb, leb-true, leb-false, le-ltb, ltb-false, lt-ltb, cases_lt, or_left, or_right, or_cases, le-leb}
+use Rattle.std.proofs.lemmas.List.{reverse-append, length-map, length-reverse, length-take-le}
 use Rattle.std.proofs.lemmas.Option.{slice_get_within}
 use Rattle.std.specs.Cmp.Lexicographic.{pointwise}
-use Rattle.std.specs.List.{flat_map}
+use Rattle.std.proofs.lemmas.List.Elements.{filter-append}
+use Rattle.std.specs.List.{AllByRecursion, flat_map}
 use Rattle.std.specs.Set.{unique_keys}
 use Rattle.std.specs.Prelude.{◌^◌, if◌then◌else◌}
 use Rattle.hg_model.specs.declared.event.Event.{Event}
@@ -14,6 +15,8 @@ use Rattle.hg_model.specs.declared.verdict.Refusal.{Refusal}
 use Rattle.hg_model.specs.declared.verdict.Refusal.TheVariants.{FullSets, OutOfMemory}
 use Rattle.hg_model.specs.declared.verdict.Verdict.{Verdict}
 use Rattle.hg_model.specs.declared.verdict.Verdict.TheVariants as verdicts
+use Rattle.hg_model.specs.declared.report.Report.{Report}
+use Rattle.hg_model.specs.Reporting.{all_reports, reports_at_last}
 use Rattle.hg_model.specs.Contents.{Content, events_of, summary}
 use Rattle.hg_model.specs.Change.{empty_content}
 use Rattle.hg_model.specs.Verdicts.{IsAccepted, standing_of, verdict}
@@ -25,6 +28,7 @@ use Rattle.hg_detect.specs.declared.detector.Answer.{Answer}
 use Rattle.hg_detect.specs.declared.detector.Answer.TheVariants as answers
 use Rattle.hg_detect.specs.Answering.{Applies, is_accepted}
 use Rattle.hg_detect.specs.Making.{Asks}
+use Rattle.hg_shards.specs.Alike.{reports_within}
 use Rattle.hg_shards.specs.declared.judge.Judge.{Judge}
 use Rattle.hg_shards.specs.declared.shard.Shard.{Shard}
 use Rattle.hg_shards.specs.declared.shards.Cause.{Cause}
@@ -33,11 +37,16 @@ use Rattle.hg_shards.specs.declared.shards.Stop.{Stop}
 use Rattle.hg_shards.specs.Asking.{HasSets, accessed, anywhere, asked, asked_at_last, has_set, sets_of, size_with}
 use Rattle.hg_shards.specs.Batches.{AllBegin, EachTakes, RefusesAs, TakeBatch, TakesBatch, before_stop, cause_of, earlier_stop, first_stop}
 use Rattle.hg_shards.specs.Filling.{AreShardsFrom, IsFirstFull, is_found_by}
-use Rattle.hg_shards.specs.Judging.{Accepts, AcceptsAll, AreAllParts, ArePartsFrom, GoesOn, HasJudged, IsAt, IsFullAt, Judges, KnowsTrace, LeadsBy, StopsAt, StopsFor}
+use Rattle.hg_shards.specs.Following.{upto}
+use Rattle.hg_shards.specs.Judging.{Accepts, AcceptsAll, AreAllParts, ArePartsFrom, HasJudged, IsAt, IsFullAt, IsPart, Judges, KnowsTrace, LeadsBy, StopsAt, StopsFor}
 use Rattle.hg_shards.specs.Stopping.{accepted_of, is_for_memory, one_stop, wants_memory}
-use Rattle.hg_shards.specs.Sharding.{AtEachEvent, BeginsFor, Follows, HasMade, LogsOwnSets, own_words, verdict_after}
+use Rattle.hg_shards.specs.Sharding.{AtEachEvent, BeginsFor, GoesOn, HasMade, own_words, verdict_after}
 use Rattle.hg_shards.proofs.Asking.{sets_are_lem}
 use Rattle.hg_shards.proofs.Batches.{one_onto}
+use Rattle.hg_shards.proofs.Following.{earlier_accepted, follows_on, moves_on}
+use Rattle.hg_shards.proofs.Merging.{each_filter}
+use Rattle.hg_shards.proofs.Logging.{all_both, all_weaker}
+use Rattle.hg_shards.proofs.Rising.{last_event}
 use Rattle.hg_shards.proofs.Counting.{at_least, has_both, unique_distinct, unique_members}
 use Rattle.hg_shards.proofs.Noting.{at_each}
 use Rattle.hg_shards.proofs.Tables.{answers as table_answers, size_is, tables_answer_lem}
@@ -231,9 +240,10 @@ parts_length : (P : Shard → Type 0) (count k : ℕ) (shards : List Shard) → 
 parts_length P count k [] h = let is : k ≡ count = h in omega (arith, is)
 parts_length P count k (s ∷ shards) h = let rest = parts_length P count (k + 1) shards h.1 in omega (arith, rest)
 
-accepted_of_parts : (trace : List Named) (count k : ℕ) (shards : List Shard) → 0 < length shards → ArePartsFrom (GoesOn trace) count k shards → IsAccepted trace
-accepted_of_parts trace count k [] some h = absurd (omega arith)
-accepted_of_parts trace count k (s ∷ shards) some h = accepted_before h.0.has.0 trace h.0.has.1.accepted
+there : (xs : List Named) (k : ℕ) → k < length xs → (x : Named) × (slice_get xs k ≡ Some x)
+there [] k lt = absurd (omega arith)
+there (x ∷ xs) zero lt = (x, refl)
+there (x ∷ xs) (suc k) lt = there xs k (omega arith)
 
 module _ (events : List Named) where
   abbrev Earliest : Option Stop → Option Stop → Option Stop → Type 0
@@ -249,158 +259,239 @@ module _ (events : List Named) where
         | false ↦ λ ge. let less = ltb-false b.place a.place ge in (omega arith, omega (arith, less))
       ] refl
 
+  module _ (trace : List Named) (limit : ℕ) where
+    -- The shard that made a stop knew the trace with the events before it, and did not accept the event at it.
+    pub record StoppedBy (stop : Stop) : Type 0 where
+      pub mid : Shard
+      pub new : Shard
+      pub next : Named
+      pub is_there : slice_get events stop.place ≡ Some next
+      pub knows : KnowsTrace limit (upto events trace stop.place) mid
+      pub refuses : RefusesAs mid next stop.cause new
+
+    -- What a batch came to at the shard of a part which sees some of its events: what it accepted of these is accepted by the rules, if
+    -- all before it is.
+    pub record Ends (count k : ℕ) (sees : Event → Bool) (stop : Option Stop) (new : Shard) : Type 0 where
+      pub count_is : new.count ≡ count
+      pub part_is : new.part ≡ k
+      pub within : accepted_of events stop ≤ length events
+      pub accepts : (i : ℕ) (n : Named) → i < accepted_of events stop → slice_get events i ≡ Some n → sees n.event ≡ true → IsAccepted (upto events trace i) → verdict_after (upto events trace i) n ≡ verdicts.Accept
+      pub goes_on : (i : ℕ) → i ≤ accepted_of events stop → IsAccepted (upto events trace i) → GoesOn (upto events trace i) new
+      pub known : stop ≡ None → IsAccepted (upto events trace (length events)) → KnowsTrace limit (upto events trace (length events)) new
+      pub stopped : (s : Stop) → stop ≡ Some s → IsAccepted (upto events trace s.place) → StoppedBy s
+
+    abbrev pub EachEnds : ℕ → (ℕ → Event → Bool) → ℕ → List (Option Stop) → List Shard → Type 0
+    EachEnds count sees k [] [] = k ≡ count
+    EachEnds count sees k (stop ∷ stops) (new ∷ news) = Ends count k (sees k) stop new × EachEnds count sees (k + 1) stops news
+    EachEnds count sees k stops news = ⊥
+
+    all_within : (count k : ℕ) (sees : ℕ → Event → Bool) (stops : List (Option Stop)) (news : List Shard) → EachEnds count sees k stops news → accepted_of events (first_stop stops) ≤ length events
+    all_within count k sees [] [] g = omega arith
+    all_within count k sees (stop ∷ stops) (new ∷ news) g =
+        let one = g.0.within in
+        let rest = all_within count (k + 1) sees stops news g.1 in
+        let least = (earlier_least stop (first_stop stops) one rest).0 in
+        omega (arith, one, least)
+    all_within count k sees [] (new ∷ news) g = absurd g
+    all_within count k sees (stop ∷ stops) [] g = absurd g
+
+    -- what the shard of part j came to
+    record EndOf (count : ℕ) (sees : ℕ → Event → Bool) (j most : ℕ) : Type 0 where
+      stop : Option Stop
+      new : Shard
+      ends : Ends count j (sees j) stop new
+      least : most ≤ accepted_of events stop
+
+    end_at : (count k j : ℕ) (sees : ℕ → Event → Bool) (stops : List (Option Stop)) (news : List Shard) → EachEnds count sees k stops news → k ≤ j → j < count
+        → EndOf count sees j (accepted_of events (first_stop stops))
+    end_at count k j sees [] [] g le lt = let is : k ≡ count = g in absurd (omega (arith, is, le, lt))
+    end_at count k j sees (stop ∷ stops) (new ∷ news) g le lt =
+        let least = earlier_least stop (first_stop stops) g.0.within (all_within count (k + 1) sees stops news g.1) in
+        ⊎_elim
+        (λ (more : k < j).
+        let rest = end_at count (k + 1) j sees stops news g.1 (omega (arith, more)) lt in
+        record { stop = rest.stop; new = rest.new; ends = rest.ends; least = let a = rest.least in let b = least.1 in omega (arith, a, b) })
+        (λ (here : j ≤ k).
+        record {
+          stop = stop;
+          new = new;
+          ends = subst (λ (m : ℕ). Ends count m (sees m) stop new) (let e : k ≡ j = omega (arith, le, here) in e) g.0;
+          least = least.0;
+        })
+        (cases_lt k j)
+    end_at count k j sees [] (new ∷ news) g le lt = absurd g
+    end_at count k j sees (stop ∷ stops) [] g le lt = absurd g
+
+    -- What all shards accepted together is accepted, since some shard sees each event.
+    all_accepted : (count : ℕ) (sees : ℕ → Event → Bool) (stops : List (Option Stop)) (news : List Shard) → EachEnds count sees 0 stops news → ((e : Event) → (k : ℕ) × (k < count) × (sees k e ≡ true)) → IsAccepted trace
+        → (p : ℕ) → p ≤ accepted_of events (first_stop stops) → IsAccepted (upto events trace p)
+    all_accepted count sees stops news g seen ok zero le = ok
+    all_accepted count sees stops news g seen ok (suc p) le =
+        let before = all_accepted count sees stops news g seen ok p (omega (arith, le)) in
+        let few = all_within count 0 sees stops news g in
+        let n = there events p (omega (arith, le, few)) in
+        let by = seen n.0.event in
+        let end = end_at count 0 by.0 sees stops news g (omega arith) by.1 in
+        let lt : p < accepted_of events end.stop = (let least = end.least in omega (arith, least, le)) in
+        subst (λ (m : ℕ). IsAccepted (upto events trace m)) (let e : p + 1 ≡ suc p = omega arith in e)
+        (subst IsAccepted (sym (one_onto events p n.0 trace n.1)) (before, end.ends.accepts p n.0 lt n.1 by.2 before))
+
+    -- all shards have what the trace makes with the events that each of them accepted
+    all_go : (p count k : ℕ) (sees : ℕ → Event → Bool) (stops : List (Option Stop)) (news : List Shard) → EachEnds count sees k stops news → p ≤ accepted_of events (first_stop stops) → IsAccepted (upto events trace p)
+        → ArePartsFrom (GoesOn (upto events trace p)) count k news
+    all_go p count k sees [] [] g le ok = g
+    all_go p count k sees (stop ∷ stops) (new ∷ news) g le ok =
+        let least = earlier_least stop (first_stop stops) g.0.within (all_within count (k + 1) sees stops news g.1) in
+        let low = least.0 in
+        let lower = least.1 in (
+          record { count_is = g.0.count_is; part_is = g.0.part_is; has = g.0.goes_on p (omega (arith, le, low)) ok },
+          all_go p count (k + 1) sees stops news g.1 (omega (arith, le, lower)) ok,
+        )
+    all_go p count k sees [] (new ∷ news) g le ok = absurd g
+    all_go p count k sees (stop ∷ stops) [] g le ok = absurd g
+
+    -- where none stopped, all know the trace with the whole batch
+    all_known : (count k : ℕ) (sees : ℕ → Event → Bool) (stops : List (Option Stop)) (news : List Shard) → EachEnds count sees k stops news → first_stop stops ≡ None → IsAccepted (upto events trace (length events))
+        → ArePartsFrom (KnowsTrace limit (upto events trace (length events))) count k news
+    all_known count k sees [] [] g none ok = g
+    all_known count k sees (stop ∷ stops) (new ∷ news) g none ok =
+        let both = earlier_is_none stop (first_stop stops) none in (
+          record { count_is = g.0.count_is; part_is = g.0.part_is; has = g.0.known both.0 ok },
+          all_known count (k + 1) sees stops news g.1 both.1 ok,
+        )
+    all_known count k sees [] (new ∷ news) g none ok = absurd g
+    all_known count k sees (stop ∷ stops) [] g none ok = absurd g
+
+    who : (count k : ℕ) (sees : ℕ → Event → Bool) (stops : List (Option Stop)) (news : List Shard) (stop : Stop) → EachEnds count sees k stops news → first_stop stops ≡ Some stop → IsAccepted (upto events trace stop.place)
+        → StoppedBy stop
+    who count k sees [] [] stop g is ok = absurd (cc is)
+    who count k sees (one ∷ stops) (new ∷ news) stop g is ok =
+        ⊎_elim
+        (λ (here : one ≡ Some stop). g.0.stopped stop here ok)
+        (λ (later : first_stop stops ≡ Some stop). who count (k + 1) sees stops news stop g.1 later ok)
+        (earlier_is_some one (first_stop stops) stop is)
+    who count k sees [] (new ∷ news) stop g is ok = absurd g
+    who count k sees (one ∷ stops) [] stop g is ok = absurd g
+
+    -- why one detector stops there, whose table has no more room than that of the shard
+    stop_for : (stop : Stop) (by : StoppedBy stop) (table : Table) → HasSets limit (asked anywhere (events_of (upto events trace stop.place))) table → wants_memory stop.cause ≡ false
+        → StopsFor (summary (upto events trace stop.place)) table by.next stop.cause
+    stop_for stop by table has not =
+        let a = by.refuses.answers.after_any (upto events trace stop.place) by.knows.0 in
+        why (summary (upto events trace stop.place)) table by.next by.refuses.answer stop.cause (verdict_after (upto events trace stop.place) by.next) refl a.answered by.refuses.cause_is
+        (λ accepts told.
+        let own = a.full limit by.knows.1 accepts told in
+        let few = own_few (own_words by.mid) (events_of (by.next ∷ upto events trace stop.place)) in
+        full_at limit by.next (upto events trace stop.place) table has (by.knows.0.accepted, accepts) (omega (arith, own, few)))
+        not
+
+-- ---- a batch that each shard sees whole
+
+length_events : (trace : List Named) → length (events_of trace) ≡ length trace
+length_events trace = length-map trace (λ n. n.event)
+
+-- the reports of a longer trace
+grown : (more trace : List Named) → (late : List Report) × (all_reports (events_of (more ++ trace)) ≡ all_reports (events_of trace) ++ late) × AllByRecursion (λ r. length trace < r.event) late
+grown [] trace = ([], sym (append-nil (all_reports (events_of trace))), tt)
+grown (n ∷ more) trace =
+    let before = grown more trace in
+    let past = events_of (more ++ trace) in
+    let last = reports_at_last (n.event ∷ past) in (
+      before.0 ++ last,
+      ap (λ (rs : List Report). rs ++ last) before.1 ∙ append_assoc (all_reports (events_of trace)) before.0 last,
+      all_both (λ (r : Report). length trace < r.event) before.0 last before.2
+          (all_weaker (λ (r : Report). r.event ≡ suc (length past)) (λ (r : Report). length trace < r.event) last
+          (λ r is. let one = length_events (more ++ trace) in let both = length-append more trace in omega (arith, is, one, both)) (last_event n.event past)),
+    )
+
+-- a shard that has what a longer trace makes has what the trace makes
+goes_less : (more trace : List Named) (s : Shard) → GoesOn (more ++ trace) s → GoesOn trace s
+goes_less more trace s g =
+    let new = grown more trace in
+    let own = reports_within (own_words s) (all_reports (events_of trace)) in
+    let next = reports_within (own_words s) new.0 in
+    record {
+      counted = let le = g.counted in let both = length-append more trace in omega (arith, le, both);
+      late = next ++ g.late;
+      reports = g.reports ∙ ap (λ (rs : List Report). take 65536 (reports_within (own_words s) rs ++ g.late)) new.1
+          ∙ ap (λ (rs : List Report). take 65536 (rs ++ g.late)) (filter-append (λ (r : Report). own_words s (r.word / 4)) (all_reports (events_of trace)) new.0)
+          ∙ ap (take 65536) (append_assoc own next g.late);
+      later = all_both (λ (r : Report). length trace < r.event) next g.late
+          (each_filter (λ (r : Report). length trace < r.event) (λ (r : Report). own_words s (r.word / 4)) new.0 new.2)
+          (all_weaker (λ (r : Report). length (more ++ trace) < r.event) (λ (r : Report). length trace < r.event) g.late (λ r lt. let both = length-append more trace in omega (arith, lt, both)) g.later);
+      log = known_before (HasMade s) more trace g.log;
+    }
+
+goes_earlier : (events trace : List Named) (i p : ℕ) → i ≤ p → (s : Shard) → GoesOn (upto events trace p) s → GoesOn (upto events trace i) s
+goes_earlier events trace i p le s g = let more = onward i p events trace le in goes_less more.0 (upto events trace i) s (subst (λ (t : List Named). GoesOn t s) more.1 g)
+
+abbrev sees_all : ℕ → Event → Bool
+sees_all k e = true
+
+module _ (events trace : List Named) (limit : ℕ) where
+  before_is : (stop : Option Stop) → reverse (before_stop events stop) ++ trace ≡ upto events trace (accepted_of events stop)
+  before_is None = ap (λ xs. reverse xs ++ trace) (sym (take-length events))
+  before_is (Some stop) = refl
+
+  mid_knows : (old new : Shard) (stop : Option Stop) → (h : TakesBatch old events stop new) → KnowsTrace limit trace old → KnowsTrace limit (upto events trace (accepted_of events stop)) h.between
+  mid_knows old new stop h k = subst (λ (t : List Named). KnowsTrace limit t h.between) (before_is stop) (h.takes.follows trace k.0, h.takes.sets trace k.0 limit k.1)
+
+  same_part : (old new : Shard) (stop : Option Stop) → TakesBatch old events stop new → (new.count ≡ old.count) × (new.part ≡ old.part)
+  same_part old new None h = (
+    ap (λ (s : Shard). s.count) h.stops ∙ ap (λ (s : Shard). s.count) h.takes.rest,
+    ap (λ (s : Shard). s.part) h.stops ∙ ap (λ (s : Shard). s.part) h.takes.rest,
+  )
+  same_part old new (Some stop) h = (
+    ap (λ (s : Shard). s.count) h.stops.2.answers.rest ∙ ap (λ (s : Shard). s.count) h.takes.rest,
+    ap (λ (s : Shard). s.part) h.stops.2.answers.rest ∙ ap (λ (s : Shard). s.part) h.takes.rest,
+  )
+
   stop_within : (old new : Shard) (stop : Option Stop) → TakesBatch old events stop new → accepted_of events stop ≤ length events
   stop_within old new None h = omega arith
   stop_within old new (Some stop) h = let lt = slice_get_within events stop.place h.stops.0 h.stops.1 in omega (arith, lt)
 
-  all_within : (olds : List Shard) (stops : List (Option Stop)) (news : List Shard) → EachTakes olds events stops news → accepted_of events (first_stop stops) ≤ length events
-  all_within [] [] [] g = omega arith
-  all_within (old ∷ olds) (stop ∷ stops) (new ∷ news) g =
-      let one = stop_within old new stop g.0 in
-      let rest = all_within olds stops news g.1 in
-      let least = (earlier_least stop (first_stop stops) one rest).0 in
-      omega (arith, one, least)
-  all_within [] [] (new ∷ news) g = absurd g
-  all_within [] (stop ∷ stops) news g = absurd g
-  all_within (old ∷ olds) [] news g = absurd g
-  all_within (old ∷ olds) (stop ∷ stops) [] g = absurd g
+  -- what a shard that was offered the batch has
+  reaches : (old new : Shard) (stop : Option Stop) → TakesBatch old events stop new → KnowsTrace limit trace old → GoesOn (upto events trace (accepted_of events stop)) new
+  reaches old new None h k =
+      subst (λ (s : Shard). GoesOn (upto events trace (length events)) s) (sym h.stops)
+      (follows_on (upto events trace (length events)) h.between limit (mid_knows old new None h k).0 (mid_knows old new None h k).1)
+  reaches old new (Some stop) h k =
+      let mid = mid_knows old new (Some stop) h k in
+      moves_on (upto events trace stop.place) h.between new h.stops.2.answers.rest (follows_on (upto events trace stop.place) h.between limit mid.0 mid.1) h.stops.2.answers.moves
 
-  module _ (trace : List Named) (limit : ℕ) where
-    -- the trace with so many events of the batch
-    abbrev upto : ℕ → List Named
-    upto p = reverse (take p events) ++ trace
+  batch_ends : (count k : ℕ) (old new : Shard) (stop : Option Stop) → TakesBatch old events stop new → IsPart (KnowsTrace limit trace) count k old → Ends events trace limit count k (sees_all k) stop new
+  batch_ends count k old new stop h part =
+      let same = same_part old new stop h in
+      let mid = mid_knows old new stop h part.has in
+      record {
+        count_is = same.0 ∙ part.count_is;
+        part_is = same.1 ∙ part.part_is;
+        within = stop_within old new stop h;
+        accepts = λ i n lt at seen ok.
+            (subst IsAccepted (one_onto events i n trace at) (earlier_accepted events trace (i + 1) (accepted_of events stop) (omega (arith, lt)) mid.0.accepted)).1;
+        goes_on = λ i le ok. goes_earlier events trace i (accepted_of events stop) le new (reaches old new stop h part.has);
+        known = λ none ok. whole stop none h part.has;
+        stopped = λ s is ok. this_one s (subst (λ (x : Option Stop). TakesBatch old events x new) is h) part.has;
+      }
+    where
+      whole : (x : Option Stop) → x ≡ None → TakesBatch old events x new → KnowsTrace limit trace old → KnowsTrace limit (upto events trace (length events)) new
+      whole None none took knows = subst (λ (s : Shard). KnowsTrace limit (upto events trace (length events)) s) (sym took.stops) (mid_knows old new None took knows)
+      whole (Some x) none took knows = absurd (cc none)
 
-    before_is : (stop : Option Stop) → reverse (before_stop events stop) ++ trace ≡ upto (accepted_of events stop)
-    before_is None = ap (λ xs. reverse xs ++ trace) (sym (take-length events))
-    before_is (Some stop) = refl
+      this_one : (s : Stop) → TakesBatch old events (Some s) new → KnowsTrace limit trace old → StoppedBy events trace limit s
+      this_one s took knows =
+          record { mid = took.between; new = new; next = took.stops.0; is_there = took.stops.1; knows = mid_knows old new (Some s) took knows; refuses = took.stops.2 }
 
-    mid_knows : (old new : Shard) (stop : Option Stop) → (h : TakesBatch old events stop new) → KnowsTrace limit trace old → KnowsTrace limit (upto (accepted_of events stop)) h.between
-    mid_knows old new stop h k = subst (λ (t : List Named). KnowsTrace limit t h.between) (before_is stop) (h.takes.follows trace k.0, h.takes.sets trace k.0 limit k.1)
-
-    -- What a shard that was offered the batch knows then.
-    record Reaches (stop : Option Stop) (new : Shard) : Type 0 where
-      follows : Follows (upto (accepted_of events stop)) new
-      log : LogsOwnSets (upto (accepted_of events stop)) new
-
-    one_reaches : (old new : Shard) (stop : Option Stop) → TakesBatch old events stop new → KnowsTrace limit trace old → Reaches stop new
-    one_reaches old new None h k =
-        let mid = mid_knows old new None h k in
-        record {
-          follows = subst (λ (s : Shard). Follows (upto (length events)) s) (sym h.stops) mid.0;
-          log = subst (λ (s : Shard). LogsOwnSets (upto (length events)) s) (sym h.stops) mid.1.log;
-        }
-    one_reaches old new (Some stop) h k =
-        let mid = mid_knows old new (Some stop) h k in
-        let r = h.stops.2 in
-        let a = r.answers.after_any (upto stop.place) mid.0 in
-        record {
-          follows = subst (λ (b : Bool). Follows (if b then h.stops.0 ∷ upto stop.place else upto stop.place) new) (not_accepted r.answer stop.cause r.cause_is) a.follows;
-          log = a.log mid.1.log;
-        }
-
-    same_part : (old new : Shard) (stop : Option Stop) → TakesBatch old events stop new → (new.count ≡ old.count) × (new.part ≡ old.part)
-    same_part old new None h = (
-      ap (λ (s : Shard). s.count) h.stops ∙ ap (λ (s : Shard). s.count) h.takes.rest,
-      ap (λ (s : Shard). s.part) h.stops ∙ ap (λ (s : Shard). s.part) h.takes.rest,
-    )
-    same_part old new (Some stop) h = (
-      ap (λ (s : Shard). s.count) h.stops.2.answers.rest ∙ ap (λ (s : Shard). s.count) h.takes.rest,
-      ap (λ (s : Shard). s.part) h.stops.2.answers.rest ∙ ap (λ (s : Shard). s.part) h.takes.rest,
-    )
-
-    -- all shards know the trace with the events that each of them accepted
-    all_go : (p count k : ℕ) (olds : List Shard) (stops : List (Option Stop)) (news : List Shard) → EachTakes olds events stops news → p ≤ accepted_of events (first_stop stops)
-        → ArePartsFrom (KnowsTrace limit trace) count k olds → ArePartsFrom (GoesOn (upto p)) count k news × AreShardsFrom count k (upto p) news
-    all_go p count k [] [] [] g le h = (h, h)
-    all_go p count k (old ∷ olds) (stop ∷ stops) (new ∷ news) g le h =
-        let one = stop_within old new stop g.0 in
-        let others = all_within olds stops news g.1 in
-        let least = earlier_least stop (first_stop stops) one others in
-        let low = least.0 in
-        let lower = least.1 in
-        let rest = all_go p count (k + 1) olds stops news g.1 (omega (arith, le, lower)) h.1 in
-        let r = one_reaches old new stop g.0 h.0.has in
-        let same = same_part old new stop g.0 in
-        let more = onward p (accepted_of events stop) events trace (omega (arith, le, low)) in (
-          (record { count_is = same.0 ∙ h.0.count_is; part_is = same.1 ∙ h.0.part_is; has = (more.0, subst (λ (t : List Named). Follows t new) more.1 r.follows) }, rest.0),
-          (
-            record {
-              count_is = same.0 ∙ h.0.count_is;
-              part_is = same.1 ∙ h.0.part_is;
-              log = known_before (HasMade new) more.0 (upto p) (subst (λ (t : List Named). LogsOwnSets t new) more.1 r.log);
-            },
-            rest.1,
-          ),
-        )
-    all_go p count k [] [] (new ∷ news) g le h = absurd g
-    all_go p count k [] (stop ∷ stops) news g le h = absurd g
-    all_go p count k (old ∷ olds) [] news g le h = absurd g
-    all_go p count k (old ∷ olds) (stop ∷ stops) [] g le h = absurd g
-
-    -- where none stopped, all know the trace with the whole batch
-    all_known : (count k : ℕ) (olds : List Shard) (stops : List (Option Stop)) (news : List Shard) → EachTakes olds events stops news → first_stop stops ≡ None
-        → ArePartsFrom (KnowsTrace limit trace) count k olds → ArePartsFrom (KnowsTrace limit (upto (length events))) count k news
-    all_known count k [] [] [] g none h = h
-    all_known count k (old ∷ olds) (stop ∷ stops) (new ∷ news) g none h =
-        let both = earlier_is_none stop (first_stop stops) none in
-        let took : TakesBatch old events None new = subst (λ (s : Option Stop). TakesBatch old events s new) both.0 g.0 in
-        let same = same_part old new None took in (
-          record {
-            count_is = same.0 ∙ h.0.count_is;
-            part_is = same.1 ∙ h.0.part_is;
-            has = subst (λ (s : Shard). KnowsTrace limit (upto (length events)) s) (sym took.stops) (mid_knows old new None took h.0.has);
-          },
-          all_known count (k + 1) olds stops news g.1 both.1 h.1,
-        )
-    all_known count k [] [] (new ∷ news) g none h = absurd g
-    all_known count k [] (stop ∷ stops) news g none h = absurd g
-    all_known count k (old ∷ olds) [] news g none h = absurd g
-    all_known count k (old ∷ olds) (stop ∷ stops) [] g none h = absurd g
-
-    -- The shard that made a stop knew the trace with the events before it, and did not accept the event at it.
-    record StoppedBy (stop : Stop) : Type 0 where
-      mid : Shard
-      new : Shard
-      next : Named
-      is_there : slice_get events stop.place ≡ Some next
-      knows : KnowsTrace limit (upto stop.place) mid
-      refuses : RefusesAs mid next stop.cause new
-
-    this_one : (old new : Shard) (stop : Stop) → TakesBatch old events (Some stop) new → KnowsTrace limit trace old → StoppedBy stop
-    this_one old new stop h k =
-        record { mid = h.between; new = new; next = h.stops.0; is_there = h.stops.1; knows = mid_knows old new (Some stop) h k; refuses = h.stops.2 }
-
-    who : (count k : ℕ) (olds : List Shard) (stops : List (Option Stop)) (news : List Shard) (stop : Stop) → EachTakes olds events stops news → first_stop stops ≡ Some stop
-        → ArePartsFrom (KnowsTrace limit trace) count k olds → StoppedBy stop
-    who count k [] [] [] stop g is h = absurd (cc is)
-    who count k (old ∷ olds) (one ∷ stops) (new ∷ news) stop g is h =
-        ⊎_elim
-        (λ (here : one ≡ Some stop). this_one old new stop (subst (λ (s : Option Stop). TakesBatch old events s new) here g.0) h.0.has)
-        (λ (later : first_stop stops ≡ Some stop). who count (k + 1) olds stops news stop g.1 later h.1)
-        (earlier_is_some one (first_stop stops) stop is)
-    who count k [] [] (new ∷ news) stop g is h = absurd g
-    who count k [] (one ∷ stops) news stop g is h = absurd g
-    who count k (old ∷ olds) [] news stop g is h = absurd g
-    who count k (old ∷ olds) (one ∷ stops) [] stop g is h = absurd g
-
-    -- why one detector stops there, whose table has no more room than that of the shard
-    stop_for : (stop : Stop) (by : StoppedBy stop) (table : Table) → HasSets limit (asked anywhere (events_of (upto stop.place))) table → wants_memory stop.cause ≡ false
-        → StopsFor (summary (upto stop.place)) table by.next stop.cause
-    stop_for stop by table has not =
-        let a = by.refuses.answers.after_any (upto stop.place) by.knows.0 in
-        why (summary (upto stop.place)) table by.next by.refuses.answer stop.cause (verdict_after (upto stop.place) by.next) refl a.answered by.refuses.cause_is
-        (λ accepts told.
-        let own = a.full limit by.knows.1 accepts told in
-        let few = own_few (own_words by.mid) (events_of (by.next ∷ upto stop.place)) in
-        full_at limit by.next (upto stop.place) table has (by.knows.0.accepted, accepts) (omega (arith, own, few)))
-        not
+  each_batch : (count k : ℕ) (olds : List Shard) (stops : List (Option Stop)) (news : List Shard) → EachTakes olds events stops news → ArePartsFrom (KnowsTrace limit trace) count k olds
+      → EachEnds events trace limit count sees_all k stops news
+  each_batch count k [] [] [] g h = h
+  each_batch count k (old ∷ olds) (stop ∷ stops) (new ∷ news) g h = (batch_ends count k old new stop g.0 h.0, each_batch count (k + 1) olds stops news g.1 h.1)
+  each_batch count k [] [] (new ∷ news) g h = absurd g
+  each_batch count k [] (stop ∷ stops) news g h = absurd g
+  each_batch count k (old ∷ olds) [] news g h = absurd g
+  each_batch count k (old ∷ olds) (stop ∷ stops) [] g h = absurd g
 
 -- ---- what a batch leads to
-
-there : (xs : List Named) (k : ℕ) → k < length xs → (x : Named) × (slice_get xs k ≡ Some x)
-there [] k lt = absurd (omega arith)
-there (x ∷ xs) zero lt = (x, refl)
-there (x ∷ xs) (suc k) lt = there xs k (omega arith)
 
 found_later : (j k : ℕ) (found : Option ℕ) → j ≤ k → is_found_by k found ≡ false → is_found_by j found ≡ false
 found_later j k None le h = refl
@@ -410,26 +501,34 @@ found_later j k (Some event) le h = let lt = leb-false event k h in lt-leb event
 abbrev full_stop : ℕ → Stop
 full_stop place = record { place = place; cause = causes.Refused FullSets }
 
--- A batch was offered to shards that know a trace. The table has the sets that the trace asks for.
-record IsBatch (limit : ℕ) (trace : List Named) (table : Table) (events : List Named) (first : Option Stop) (found : Option ℕ) (olds news : List Shard) : Type 0 where
-  took : TakeBatch olds events first news
-  full : IsFirstFull limit news found
-  all : AreAllParts (KnowsTrace limit trace) olds
-  has : HasSets limit (asked anywhere (events_of trace)) table
-  ok : IsAccepted trace
+-- A batch was offered to the shards of all parts, which know a trace. The table has the sets that the trace asks for.
+pub record IsBatch (limit : ℕ) (trace : List Named) (table : Table) (events : List Named) (first : Option Stop) (found : Option ℕ) (count : ℕ) (sees : ℕ → Event → Bool) (news : List Shard) : Type 0 where
+  pub stops : List (Option Stop)
+  pub each : EachEnds events trace limit count sees 0 stops news
+  pub first_is : first ≡ first_stop stops
+  pub seen : (e : Event) → (k : ℕ) × (k < count) × (sees k e ≡ true)
+  pub some : 0 < count
+  pub full : IsFirstFull limit news found
+  pub has : HasSets limit (asked anywhere (events_of trace)) table
+  pub ok : IsAccepted trace
 
-module _ (limit : ℕ) (trace : List Named) (table : Table) (events : List Named) (first : Option Stop) (found : Option ℕ) (olds news : List Shard) (b : IsBatch limit trace table events first found olds news) where
+shards_from : (trace : List Named) (count k : ℕ) (shards : List Shard) → ArePartsFrom (GoesOn trace) count k shards → AreShardsFrom count k trace shards
+shards_from trace count k [] h = h
+shards_from trace count k (s ∷ shards) h = (record { count_is = h.0.count_is; part_is = h.0.part_is; log = h.0.has.log }, shards_from trace count (k + 1) shards h.1)
+
+module _ (limit : ℕ) (trace : List Named) (table : Table) (events : List Named) (first : Option Stop) (found : Option ℕ) (count : ℕ) (sees : ℕ → Event → Bool) (news : List Shard)
+    (b : IsBatch limit trace table events first found count sees news) where
   abbrev with_events : ℕ → List Named
-  with_events m = reverse (take m events) ++ trace
+  with_events m = upto events trace m
 
   abbrev reached : ℕ
   reached = accepted_of events first
 
-  reached_is : reached ≡ accepted_of events (first_stop b.took.stops)
-  reached_is = ap (accepted_of events) b.took.first_is
+  reached_is : reached ≡ accepted_of events (first_stop b.stops)
+  reached_is = ap (accepted_of events) b.first_is
 
   reached_within : reached ≤ length events
-  reached_within = let le = all_within events olds b.took.stops news b.took.each in let is = reached_is in omega (arith, le, is)
+  reached_within = let le = all_within events trace limit count 0 sees b.stops news b.each in let is = reached_is in omega (arith, le, is)
 
   length_with : (m : ℕ) → m ≤ reached → length (with_events m) ≡ m + length trace
   length_with m le =
@@ -439,23 +538,23 @@ module _ (limit : ℕ) (trace : List Named) (table : Table) (events : List Named
       let three = length-take-le m events (omega (arith, le, most)) in
       omega (arith, one, two, three)
 
-  go_on : (m : ℕ) → m ≤ reached → ArePartsFrom (GoesOn (with_events m)) (length olds) 0 news × AreShardsFrom (length olds) 0 (with_events m) news
-  go_on m le = all_go events trace limit m (length olds) 0 olds b.took.stops news b.took.each (let is = reached_is in omega (arith, le, is)) b.all.1
+  ok_at : (m : ℕ) → m ≤ reached → IsAccepted (with_events m)
+  ok_at m le = all_accepted events trace limit count sees b.stops news b.each b.seen b.ok m (let is = reached_is in omega (arith, le, is))
 
-  as_many : length olds ≡ length news
-  as_many = let is = parts_length (GoesOn (with_events 0)) (length olds) 0 news (go_on 0 (omega arith)).0 in omega (arith, is)
+  go_on : (m : ℕ) → m ≤ reached → ArePartsFrom (GoesOn (with_events m)) count 0 news
+  go_on m le = all_go events trace limit m count 0 sees b.stops news b.each (let is = reached_is in omega (arith, le, is)) (ok_at m le)
+
+  as_many : count ≡ length news
+  as_many = let is = parts_length (GoesOn (with_events 0)) count 0 news (go_on 0 (omega arith)) in omega (arith, is)
 
   some_new : 0 < length news
-  some_new = let lt = b.all.0 in let is = as_many in omega (arith, lt, is)
+  some_new = let lt = b.some in let is = as_many in omega (arith, lt, is)
 
   parts_at : (m : ℕ) → m ≤ reached → AreAllParts (GoesOn (with_events m)) news
-  parts_at m le = (some_new, subst (λ (n : ℕ). ArePartsFrom (GoesOn (with_events m)) n 0 news) as_many (go_on m le).0)
-
-  ok_at : (m : ℕ) → m ≤ reached → IsAccepted (with_events m)
-  ok_at m le = accepted_of_parts (with_events m) (length olds) 0 news some_new (go_on m le).0
+  parts_at m le = (some_new, subst (λ (n : ℕ). ArePartsFrom (GoesOn (with_events m)) n 0 news) as_many (go_on m le))
 
   sizes_at : (m : ℕ) → m ≤ reached → AtEachEvent (λ past. nat_lt limit (size_with (asked anywhere (events_of past))) ≡ is_found_by (length past) found) (with_events m)
-  sizes_at m le = b.full (with_events m) (some_new, subst (λ (n : ℕ). AreShardsFrom n 0 (with_events m) news) as_many (go_on m le).1)
+  sizes_at m le = b.full (with_events m) (some_new, subst (λ (n : ℕ). AreShardsFrom n 0 (with_events m) news) as_many (shards_from (with_events m) count 0 news (go_on m le)))
 
   fits_at : (m : ℕ) → m ≤ reached → is_found_by (length (with_events m)) found ≡ false → AtEachEvent (Fits limit) (with_events m)
   fits_at m le none =
@@ -501,8 +600,8 @@ module _ (limit : ℕ) (trace : List Named) (table : Table) (events : List Named
               some_new,
               subst (λ (l : ℕ). ArePartsFrom (KnowsTrace l (with_events m)) (length news) 0 news) (sym limit_is)
                   (subst (λ (n : ℕ). ArePartsFrom (KnowsTrace limit (with_events m)) n 0 news) as_many
-                  (subst (λ (k : ℕ). ArePartsFrom (KnowsTrace limit (with_events k)) (length olds) 0 news) (sym whole)
-                  (all_known events trace limit (length olds) 0 olds b.took.stops news b.took.each (sym b.took.first_is ∙ is) b.all.1))),
+                  (subst (λ (k : ℕ). ArePartsFrom (KnowsTrace limit (with_events k)) count 0 news) (sym whole)
+                  (all_known events trace limit count 0 sees b.stops news b.each (sym b.first_is ∙ is) (ok_at (length events) (omega (arith, whole, le)))))),
             );
             sets = subst (λ (l : ℕ). HasSets l (asked anywhere (events_of (with_events m))) done.filled) (sym limit_is) done.sets;
           };
@@ -516,7 +615,7 @@ module _ (limit : ℕ) (trace : List Named) (table : Table) (events : List Named
         → StopsAt (summary trace) table events stop new
     lead_some stop is le none counts not =
         let done = accepted_at stop.place le none in
-        let by = who events trace limit (length olds) 0 olds b.took.stops news stop b.took.each (sym b.took.first_is ∙ is) b.all.1 in
+        let by = who events trace limit count 0 sees b.stops news stop b.each (sym b.first_is ∙ is) (ok_at stop.place le) in
         record {
           last = summary (with_events stop.place);
           filled = done.filled;
@@ -614,16 +713,35 @@ module _ (limit : ℕ) (trace : List Named) (table : Table) (events : List Named
 
 -- ---- a judge
 
+-- What a batch leads to, by what it came to at the shards of all parts.
+pub judges_by : (old new : Judge) (events : List Named) (first : Option Stop) (found : Option ℕ) (news : List Shard) (stop : Option Stop) (count : ℕ) (sees : ℕ → Event → Bool)
+    → ((trace : List Named) (table : Table) → IsAccepted trace → AreAllParts (KnowsTrace old.limit trace) old.shards.shards.items → HasSets old.limit (asked anywhere (events_of trace)) table
+    → IsBatch old.limit trace table events first found count sees news)
+    → stop ≡ one_stop old.events events first found → new.limit ≡ old.limit → new.shards.shards.items ≡ news
+    → (old.events + accepted_of events stop < 2 ^ 64 → new.events ≡ old.events + accepted_of events stop) → is_for_memory stop ≡ false → Judges old events stop new
+judges_by old new events first found news stop count sees batch stop_is limit_is shards_are counts not = λ c table h.
+    subst (λ (d : Content). LeadsBy d table events stop new) (sym h.content)
+    (subst (λ (s : Option Stop). LeadsBy (summary h.trace) table events s new) (sym stop_is)
+    (lead old.limit h.trace table events first found count sees news (batch h.trace table h.judged.accepted h.parts h.sets) new limit_is shards_are old.events h.judged.count found refl
+    (subst (λ (s : Option Stop). old.events + accepted_of events s < 2 ^ 64 → new.events ≡ old.events + accepted_of events s) stop_is counts)
+    (ap is_for_memory (sym stop_is) ∙ not)))
+
 pub judges_lem : (old new : Judge) (events : List Named) (first : Option Stop) (found : Option ℕ) (news : List Shard) (stop : Option Stop) → TakeBatch old.shards.shards.items events first news → IsFirstFull old.limit news found
     → stop ≡ one_stop old.events events first found → new.limit ≡ old.limit → new.shards.shards.items ≡ news
     → (old.events + accepted_of events stop < 2 ^ 64 → new.events ≡ old.events + accepted_of events stop) → is_for_memory stop ≡ false → Judges old events stop new
-judges_lem old new events first found news stop took full stop_is limit_is shards_are counts not = λ c table h.
-    let batch : IsBatch old.limit h.trace table events first found old.shards.shards.items news = record { took = took; full = full; all = h.parts; has = h.sets; ok = h.judged.accepted } in
-    subst (λ (d : Content). LeadsBy d table events stop new) (sym h.content)
-    (subst (λ (s : Option Stop). LeadsBy (summary h.trace) table events s new) (sym stop_is)
-    (lead old.limit h.trace table events first found old.shards.shards.items news batch new limit_is shards_are old.events h.judged.count found refl
-    (subst (λ (s : Option Stop). old.events + accepted_of events s < 2 ^ 64 → new.events ≡ old.events + accepted_of events s) stop_is counts)
-    (ap is_for_memory (sym stop_is) ∙ not)))
+judges_lem old new events first found news stop took full =
+    judges_by old new events first found news stop (length old.shards.shards.items) sees_all
+    (λ trace table ok all has.
+    record {
+      stops = took.stops;
+      each = each_batch events trace old.limit (length old.shards.shards.items) 0 old.shards.shards.items took.stops news took.each all.1;
+      first_is = took.first_is;
+      seen = λ e. (0, all.0, refl);
+      some = all.0;
+      full = full;
+      has = has;
+      ok = ok;
+    })
 
 begins_from : (count limit k : ℕ) (shards : List Shard) → k + length shards ≡ count → ((j : ℕ) (d : Shard) → j < length shards → BeginsFor count (k + j) limit (get_or shards j d))
     → ArePartsFrom (KnowsTrace limit []) count k shards × ArePartsFrom (GoesOn []) count k shards
@@ -632,7 +750,7 @@ begins_from count limit k (s ∷ shards) all h =
     let one : BeginsFor count k limit s = subst (λ (m : ℕ). BeginsFor count m limit s) (omega arith) (h 0 s (omega arith)) in
     let rest = begins_from count limit (k + 1) shards (omega (arith, all)) (λ j d lt. subst (λ (m : ℕ). BeginsFor count m limit (get_or shards j d)) (omega arith) (h (suc j) d (omega arith))) in (
       (record { count_is = one.count_is; part_is = one.part_is; has = (one.follows, one.sets) }, rest.0),
-      (record { count_is = one.count_is; part_is = one.part_is; has = ([], one.follows) }, rest.1),
+      (record { count_is = one.count_is; part_is = one.part_is; has = follows_on [] s limit one.follows one.sets }, rest.1),
     )
 
 pub begins_lem : (count limit : ℕ) (j : Judge) → 0 < count → 0 < limit → AllBegin count limit j.shards.shards.items → j.limit ≡ limit → j.events ≡ 0 → IsAt empty_content (first_table limit) j

@@ -18,11 +18,17 @@ pub mod Leaving
 pub mod Sharding
 mod Logging
 mod Noting
+mod Going
 mod Offering
+mod Passing
+mod Routing
 mod Together
 mod Filling
 mod Batches
+mod Following
+mod Seeing
 mod Reading
 mod Judging
+mod Routed
 mod Summaries
 mod Rows

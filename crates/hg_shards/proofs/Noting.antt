@@ -164,7 +164,7 @@ module _ (old : Shard) (d : Detector PagedWords) (l : Log) (answer : Result Answ
   abbrev Notes : Type 0
   Notes = (is_accepted answer ≡ true) × (l ≡ record old.log { events = noted old.log.events (length d.sets.sets) d.parts.events })
 
-  counted : old.detector.parts.events ≤ d.parts.events
+  pub counted : old.detector.parts.events ≤ d.parts.events
   counted = by (is_accepted answer) counts
     where
       by : (b : Bool) → d.parts.events ≡ (if b then old.detector.parts.events + 1 else old.detector.parts.events) → old.detector.parts.events ≤ d.parts.events
@@ -208,7 +208,7 @@ module _ (old : Shard) (d : Detector PagedWords) (l : Log) (answer : Result Answ
       past = all_weaker (λ e. e ≤ old.detector.parts.events) (λ e. e ≤ d.parts.events) old.log.events (λ e le. let c = counted in omega (arith, le, c)) is_log.past
 
   -- what was made up to an event that was counted before
-  made_same : (k : ℕ) → k ≤ old.detector.parts.events → made_in k now ≡ made_in k old
+  pub made_same : (k : ℕ) → k ≤ old.detector.parts.events → made_in k now ≡ made_in k old
   made_same k le =
       ⊎_elim
       (λ (s : Stays). ap (λ (x : Log). made_by k d.sets.sets x.events) s.0 ∙ within)

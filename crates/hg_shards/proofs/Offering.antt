@@ -40,7 +40,8 @@ use Rattle.hg_shards.specs.declared.shard.Shard.{Shard}
 use Rattle.hg_shards.proofs.Asking.{sets_are_lem}
 use Rattle.hg_shards.proofs.Tables.{first_has}
 use Rattle.hg_shards.proofs.Cuts.{same_verdict_cut}
-use Rattle.hg_shards.proofs.Noting.{Counts, Grows, accept_of, accepted_answer, log_is, log_stays, sets_stay}
+use Rattle.hg_shards.proofs.Going.{ReportsGo}
+use Rattle.hg_shards.proofs.Noting.{Counts, Grows, accept_of, accepted_answer, log_is, log_stays, made_same, sets_stay}
 use Rattle.hg_shards.proofs.Lives.{same_touch}
 use Rattle.hg_shards.proofs.Reports.{accessed_words, is_access}
 use Rattle.hg_shards.proofs.Sets.{contains_filter, has_first}
@@ -69,7 +70,7 @@ no_sets_of_lock c holds.RdLock t l = refl
 no_sets_of_lock c holds.Unlock t l = refl
 
 -- what passes by accesses no word of the group
-none_accessed : (within : ℕ → Bool) (e : Event) → PassesBy within e → filter within (accessed e) ≡ []
+pub none_accessed : (within : ℕ → Bool) (e : Event) → PassesBy within e → filter within (accessed e) ≡ []
 none_accessed within e h = nothing (filter within (accessed e)) (λ w has. by w (within w) refl (sym (contains_filter within (accessed e) w ∙ ap (λ b. within w && b) (accessed_words e w)) ∙ has))
   where
     nothing : (ws : List ℕ) → ((w : ℕ) → contains ws w ≡ true → ⊥) → ws ≡ []
@@ -246,7 +247,7 @@ none_passes within write a own is by = at (within w) refl
 
 -- What is known after each trace that the shard followed is its answer.
 module _ (old : Shard) (d : Detector PagedWords) (l : Log) (n : Named) (answer : Result Answer Refusal) (ready : IsReady old) (grows : Grows old.detector.sets d.sets) (counts : Counts old.detector answer d)
-    (goes : LogGoes old answer (record old { detector = d; log = l })) where
+    (goes : LogGoes old answer (record old { detector = d; log = l })) (go : ReportsGo old.detector d) where
   abbrev Gives : List Named → Type 0
   Gives trace = Offers (own_words old) trace n answer (λ r. r ≡ OutOfMemory) old.detector.sets d.sets (content_of d) (d ≡ old.detector)
 
@@ -275,6 +276,7 @@ module _ (old : Shard) (d : Detector PagedWords) (l : Log) (n : Named) (answer :
       record {
         rest = refl;
         ready = record { part = ready.part; whole = whole; log = log_is old d l answer ready.log grows counts goes };
+        moves = record { events = go.events; late = go.late; reports = go.reports; later = go.later; made = made_same old d l answer ready.log grows counts goes };
         after_any = λ trace k. answer_after trace k (offers trace k);
       }
 

@@ -1,5 +1,5 @@
 -- The reports of all parts, read in the order of the whole trace.
-use Rattle.std.proofs.Common.{◌≡◌, ⊎_elim, ℕ, zero, suc, ◌+◌, ◌-◌, ◌/◌, ◌<◌, ◌≤◌, Bool, true, false, cond, List, [], ◌∷◌, ◌++◌, length, map, filter, take, drop, set, get_or, replicate, slice_get, Option, Some, None, refl, sym, ap, ◌∙◌, subst, arith, append-nil, append_assoc, length-append, eqb-true}
+use Rattle.std.proofs.Common.{◌≡◌, ⊎_elim, ℕ, zero, suc, ◌+◌, ◌-◌, ◌/◌, ◌<◌, ◌≤◌, Bool, true, false, cond, List, [], ◌∷◌, ◌++◌, length, map, filter, take, drop, set, get_or, replicate, slice_get, Option, Some, None, refl, sym, ap, ◌∙◌, subst, arith, append_assoc, length-append, eqb-true}
 use Rattle.std.proofs.lemmas.Bool.{false≢true, lt-leb, le-leb, cases_lt, ne_eqb}
 use Rattle.std.proofs.lemmas.Nat.{mod_below}
 use Rattle.std.proofs.lemmas.Option.{slice_get_past, slice_get_within}
@@ -13,22 +13,22 @@ use Rattle.std.specs.Prelude.{if◌then◌else◌}
 use Rattle.hg_model.specs.declared.event.Named.{Named}
 use Rattle.hg_model.specs.declared.report.Report.{Report}
 use Rattle.hg_model.specs.Contents.{events_of, summary}
-use Rattle.hg_model.specs.Reporting.{all_reports, reports_at_last}
+use Rattle.hg_model.specs.Reporting.{all_reports}
 use Rattle.hg_cells.specs.declared.report.KeptReport.{KeptReport}
 use Rattle.hg_detect.specs.Shown.{report_of, reports_of}
 use Rattle.hg_shards.specs.declared.cursor.Cursor.{Cursor}
 use Rattle.hg_shards.specs.declared.merge.Place.{Place}
 use Rattle.hg_shards.specs.declared.shard.Shard.{Shard}
 use Rattle.hg_shards.specs.Alike.{reports_within}
-use Rattle.hg_shards.specs.Judging.{AreAllParts, ArePartsFrom, GoesOn, IsPart, ReadsFrom}
+use Rattle.hg_shards.specs.Judging.{AreAllParts, ArePartsFrom, IsPart, ReadsFrom}
 use Rattle.hg_shards.specs.Merging.{IsBefore, IsNextByHeads, Rises, head_of, merged, place_of, sorted, wins}
 use Rattle.hg_shards.specs.Parts.{by_page}
 use Rattle.hg_shards.specs.Reading.{IsNextPart, ReadsNext, count_of_part, heads_upto, place_upto}
-use Rattle.hg_shards.specs.Sharding.{page_part, words_of}
+use Rattle.hg_shards.specs.Sharding.{GoesOn, page_part, words_of}
 use Rattle.hg_shards.proofs.Merging.{among, each_filter, front_is_first}
-use Rattle.hg_shards.proofs.Order.{each_both, each_weaker}
+use Rattle.hg_shards.proofs.Order.{each_weaker}
 use Rattle.hg_shards.proofs.Parts.{each_dropped, each_in_front, flat_same, number_among, numbers_rise, rises_front, shares_make_the_whole_lem, take_over}
-use Rattle.hg_shards.proofs.Rising.{early, last_event, reports_rise_lem}
+use Rattle.hg_shards.proofs.Rising.{early, reports_rise_lem}
 use Rattle.hg_shards.proofs.Taking.{IsBest, best_is_next, best_is_none, best_none, best_changes, best_stays, wins_never_itself}
 
 -- ---- lists
@@ -140,20 +140,6 @@ kept_there (suc most) (suc index) (x ∷ xs) ys r rest d h = kept_there most ind
 
 length_events : (trace : List Named) → length (events_of trace) ≡ length trace
 length_events trace = length-map trace (λ n. n.event)
-
--- the reports of a longer trace
-grown : (more trace : List Named) → (late : List Report) × (all_reports (events_of (more ++ trace)) ≡ all_reports (events_of trace) ++ late) × AllByRecursion (λ r. length trace < r.event) late
-grown [] trace = ([], sym (append-nil (all_reports (events_of trace))), tt)
-grown (n ∷ more) trace =
-    let before = grown more trace in
-    let past = events_of (more ++ trace) in
-    let last = reports_at_last (n.event ∷ past) in (
-      before.0 ++ last,
-      ap (λ (rs : List Report). rs ++ last) before.1 ∙ append_assoc (all_reports (events_of trace)) before.0 last,
-      each_both (λ (r : Report). length trace < r.event) before.0 last before.2
-          (each_weaker (λ (r : Report). r.event ≡ suc (length past)) (λ (r : Report). length trace < r.event)
-          (λ r is. let one = length_events (more ++ trace) in let both = length-append more trace in omega (arith, is, one, both)) last (last_event n.event past)),
-    )
 
 -- ---- the numbers of the parts
 
@@ -279,13 +265,10 @@ module _ (parts : ℕ) (some : 0 < parts) (trace : List Named) (front rest : Lis
 
   keeps : (k : ℕ) (s : Shard) → IsPart (GoesOn trace) parts k s → Keeps k s
   keeps k s h =
-      let later = grown h.has.0 trace in
       record {
-        late = reports_within (words_of parts k) later.0;
-        kept = h.has.1.reports
-            ∙ (λ i. take 65536 (reports_within (words_of (h.count_is i) (h.part_is i)) (later.1 i)))
-            ∙ ap (take 65536) (filter-append (passes k) whole later.0);
-        high = each_filter (λ r. length trace < r.event) (passes k) later.0 later.2;
+        late = h.has.late;
+        kept = h.has.reports ∙ (λ i. take 65536 (reports_within (words_of (h.count_is i) (h.part_is i)) whole ++ h.has.late));
+        high = h.has.later;
       }
 
   low : (k : ℕ) → AllByRecursion (λ r. r.event ≤ length trace) (own k)

@@ -25,7 +25,7 @@ use Rattle.hg_shards.proofs.Asking.{sets_are_lem}
 use Rattle.hg_shards.proofs.Steps.{passing_lem, steps_agree_lem}
 use Rattle.hg_shards.proofs.Tables.{asks_full, asks_none}
 
-take_more : {X : Type 0} (n : ℕ) (xs ys : List X) → take n (take n xs ++ ys) ≡ take n (xs ++ ys)
+pub take_more : {X : Type 0} (n : ℕ) (xs ys : List X) → take n (take n xs ++ ys) ≡ take n (xs ++ ys)
 take_more zero xs ys = refl
 take_more (suc n) [] ys = refl
 take_more (suc n) (x ∷ xs) ys = λ i. x ∷ take_more n xs ys i

@@ -1,5 +1,5 @@
 -- All parts of a trace as one detector, which judges batches of events.
-use Rattle.std.specs.Prelude.{◌≡◌, ◌⊎◌, ℕ, ◌+◌, ◌<◌, List, [], ◌∷◌, ◌++◌, length, take, slice_get, Option, Some, None}
+use Rattle.std.specs.Prelude.{◌≡◌, ◌⊎◌, ℕ, ◌+◌, ◌^◌, ◌<◌, ◌≤◌, false, List, [], ◌∷◌, ◌++◌, length, take, slice_get, Option, Some, None}
 use Rattle.hg_model.specs.declared.event.Named.{Named}
 use Rattle.hg_model.specs.declared.verdict.Refusal.TheVariants.{FullSets}
 use Rattle.hg_model.specs.declared.verdict.Verdict.TheVariants as verdicts
@@ -16,9 +16,15 @@ use Rattle.hg_shards.specs.declared.shard.Shard.{Shard}
 use Rattle.hg_shards.specs.declared.shards.Cause.{Cause}
 use Rattle.hg_shards.specs.declared.shards.Cause.TheVariants as causes
 use Rattle.hg_shards.specs.declared.shards.Stop.{Stop}
+use Rattle.hg_model.specs.declared.event.Event.{Event}
+use Rattle.hg_shards.specs.declared.routes.Routes.{Routes}
 use Rattle.hg_shards.specs.Asking.{HasSets, anywhere, asked}
+use Rattle.hg_shards.specs.Filling.{IsFirstFull}
+use Rattle.hg_shards.specs.Following.{named}
+use Rattle.hg_shards.specs.Pushing.{IsRouted}
+use Rattle.hg_shards.specs.Stopping.{accepted_of, is_for_memory, one_stop}
 use Rattle.hg_shards.specs.Reading.{HasRead, ReadsNext}
-use Rattle.hg_shards.specs.Sharding.{Follows, HasOwnSets}
+use Rattle.hg_shards.specs.Sharding.{Follows, GoesOn, HasOwnSets}
 
 -- ---- one detector with one table of sets
 
@@ -58,10 +64,6 @@ AreAllParts P shards = (0 < length shards) × ArePartsFrom P (length shards) 0 s
 -- The shard follows the trace, and has its own sets of it.
 abbrev pub KnowsTrace : ℕ → List Named → Shard → Type 0
 KnowsTrace limit trace s = Follows trace s × HasOwnSets limit trace s
-
--- The shard follows a trace that begins with this one.
-abbrev pub GoesOn : List Named → Shard → Type 0
-GoesOn trace s = (more : List Named) × Follows (more ++ trace) s
 
 -- The judge was offered the accepted events of a trace. It counts these, and some of its shards may have gone further.
 pub record HasJudged (trace : List Named) (j : Judge) : Type 0 where
@@ -111,6 +113,19 @@ LeadsBy c table events (Some stop) new = StopsAt c table events stop new
 -- A batch is offered to a judge: what one detector would answer where the judge stands is answered.
 abbrev pub Judges : Judge → List Named → Option Stop → Judge → Type 0
 Judges old events stop new = (c : Content) (table : Table) → IsAt c table old → LeadsBy c table events stop new
+
+-- The stop of a batch of so many events, by the first stop of the shards that were offered it.
+pub record Concludes (old : Judge) (count : ℕ) (first : Option Stop) (stop : Option Stop) (new : Judge) : Type 0 where
+  pub found : Option ℕ
+  pub full : IsFirstFull old.limit old.shards.shards.items found
+  pub stop_is : (events : List Named) → length events ≡ count → stop ≡ one_stop old.events events first found
+  pub counts : (events : List Named) → length events ≡ count → old.events + accepted_of events stop < 2 ^ 64 → new.events ≡ old.events + accepted_of events stop
+  pub no_memory : is_for_memory stop ≡ false
+
+-- A batch in lists is offered to a judge, whose events the source numbers from `first` on: what one detector would answer is answered.
+abbrev pub JudgesRoutes : Judge → ℕ → ℕ → Routes → Option Stop → Judge → Type 0
+JudgesRoutes old source first routes stop new =
+    (events : List Event) → IsRouted events routes → first + length events ≤ 2 ^ 64 → Judges old (named source first events) stop new
 
 -- ---- the reports
 

@@ -7,7 +7,12 @@ pub mod Laws
 pub mod Sharding
 pub mod Filling
 pub mod Batches
+pub mod Routing
+pub mod Pushing
 pub mod Reading
 pub mod Stopping
+pub mod Following
+pub mod Seeing
+pub mod Routed
 pub mod Judging
 pub mod Readiness

@@ -1,5 +1,5 @@
 -- What a shard knows of a trace: all that concerns the words of one part, and no other words.
-use Rattle.std.specs.Prelude.{◌≡◌, ◌⊎◌, ℕ, ◌*◌, ◌/◌, ◌%◌, ◌^◌, ◌<◌, ◌≤◌, Bool, true, false, List, [], ◌∷◌, length, map, sum, take, Option, Some, None, Result, Ok, Err, if◌then◌else◌}
+use Rattle.std.specs.Prelude.{◌≡◌, ◌⊎◌, ℕ, ◌*◌, ◌/◌, ◌%◌, ◌^◌, ◌<◌, ◌≤◌, Bool, true, false, List, [], ◌∷◌, ◌++◌, length, map, reverse, sum, take, Option, Some, None, Result, Ok, Err, if◌then◌else◌}
 use Rattle.std.specs.List.{AllByRecursion, range_with_len}
 use Rattle.hg_model.specs.declared.limits.TheConstants.{MOST_REPORTS}
 use Rattle.hg_model.specs.declared.event.Access.{Access}
@@ -19,7 +19,8 @@ use Rattle.hg_cells.specs.declared.words.Words as words
 use Rattle.hg_detect.specs.declared.detector.Answer.{Answer}
 use Rattle.hg_detect.specs.declared.detector.Detector.{Detector}
 use Rattle.hg_detect.specs.declared.detector.Answer.TheVariants.{Accepted}
-use Rattle.hg_detect.specs.Answering.{Applies, IsOnLock, is_accepted}
+use Rattle.hg_detect.specs.Answering.{Applies, IsOnLock, PassesAll, is_accepted}
+use Rattle.hg_detect.specs.Shown.{reports_of}
 use Rattle.hg_detect.specs.Growing.{MayGrow}
 use Rattle.hg_detect.specs.Memory.{IsWhole, content_of}
 use Rattle.hg_shards.specs.declared.shard.Shard.{Shard}
@@ -135,6 +136,25 @@ LogGoes old answer new =
 abbrev pub verdict_after : List Named → Named → Verdict
 verdict_after trace n = verdict (standing_of (summary trace)) n
 
+-- What a shard had of the events that it had counted stays, whatever comes. Where it kept the first of some reports, it keeps the first of
+-- these and of reports of later events, and its log says of the events that it had counted what it said.
+pub record MovesOn (old new : Shard) : Type 0 where
+  pub events : old.detector.parts.events ≤ new.detector.parts.events
+  pub late : List Report
+  pub reports : (all : List Report) → reports_of old.detector ≡ take MOST_REPORTS all → reports_of new.detector ≡ take MOST_REPORTS (all ++ late)
+  pub later : AllByRecursion (λ r. old.detector.parts.events < r.event) late
+  pub made : (k : ℕ) → k ≤ old.detector.parts.events → made_in k new ≡ made_in k old
+
+-- The shard has what a trace makes of its words: the first reports of these are kept, and its log says of each event of the trace which
+-- sets its words had asked for by then. It may have gone further: then it also has reports and sets of later events, and maybe of events
+-- that no trace has, since it passed over some that were not accepted.
+pub record GoesOn (trace : List Named) (s : Shard) : Type 0 where
+  pub counted : length trace ≤ s.detector.parts.events
+  pub late : List Report
+  pub reports : reports_of s.detector ≡ take MOST_REPORTS (reports_of_group (own_words s) trace ++ late)
+  pub later : AllByRecursion (λ r. length trace < r.event) late
+  pub log : LogsOwnSets trace s
+
 -- What the offer of an event gives a shard that followed a trace. The rules answer as they do after the whole trace, and what they
 -- accept is refused for want of sets or of memory alone. The shard follows the trace with the event where it was accepted, and the
 -- trace as it was where it was not; what the rules do not accept changes nothing. An event on a lock needs no room. Its table has the
@@ -149,11 +169,36 @@ pub record AnswersAfter (trace : List Named) (old : Shard) (n : Named) (answer :
   pub held : IsOnLock n.event → verdict_after trace n ≡ Accept → answer ≡ Ok Accepted
   pub full : (limit : ℕ) → HasOwnSets limit trace old → verdict_after trace n ≡ Accept → answer ≡ Err FullSets → limit < size_with (asked (own_words old) (events_of (n ∷ trace)))
 
--- The same after any trace that the shard followed. Its part stays, and it may be offered the next event.
+-- The same after any trace that the shard followed. Its part stays, and it may be offered the next event. What it had stays too, also
+-- where it follows no trace.
 pub record AnswersShard (old : Shard) (n : Named) (answer : Result Answer Refusal) (new : Shard) : Type 0 where
   pub rest : new ≡ record old { detector = new.detector; log = new.log }
   pub ready : IsReady new
+  pub moves : MovesOn old new
   pub after_any : (trace : List Named) → Follows trace old → AnswersAfter trace old n answer new
+
+-- The event is of this source and of memory, and touches no word of the group.
+pub record IsPassed (within : ℕ → Bool) (source : ℕ) (n : Named) : Type 0 where
+  pub source_is : n.source ≡ source
+  pub by : PassesBy within n.event
+
+-- These are so many events in order, each of the source and of no word of the group, and the rules accept one after another behind the
+-- trace.
+pub record ArePassed (within : ℕ → Bool) (source count : ℕ) (trace events : List Named) : Type 0 where
+  pub many : length events ≡ count
+  pub each : AllByRecursion (IsPassed within source) events
+  pub accepted : IsAccepted (reverse events ++ trace)
+
+-- A shard passed over so many events of a source at once. Where these are of no word of the shard, and the rules accept one after
+-- another behind a trace that it followed, it follows the trace with them, and has its own sets of it.
+pub record PassesOver (old : Shard) (source count : ℕ) (new : Shard) : Type 0 where
+  pub rest : new ≡ record old { detector = new.detector }
+  pub detector : PassesAll old.detector source count new.detector
+  pub ready : IsReady new
+  pub moves : MovesOn old new
+  pub follows : (trace events : List Named) → ArePassed (own_words old) source count trace events → Follows trace old → Follows (reverse events ++ trace) new
+  pub sets : (trace events : List Named) → ArePassed (own_words old) source count trace events → Follows trace old → (limit : ℕ) → HasOwnSets limit trace old
+      → HasOwnSets limit (reverse events ++ trace) new
 
 -- An accepted access that touches no word of the shard is never refused, and needs no room.
 abbrev pub PassesOthers : Shard → Named → Result Answer Refusal → Type 0

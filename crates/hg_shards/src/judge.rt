@@ -1,13 +1,16 @@
 //! All parts of a trace as one detector, which judges batches of its events side by side.
 
-ghost use Rattle.std.specs.Prelude.{◌≡◌, ◌≤◌, [], IfErr, IfOk};
+ghost use Rattle.std.specs.Prelude.{◌≡◌, ◌≤◌, List, [], IfErr, IfOk, length};
+ghost use Rattle.hg_model.specs.declared.event.Named.{Named};
+ghost use Rattle.hg_model.specs.Contents.{Content};
 ghost use Rattle.hg_model.specs.Change.{empty_content};
-ghost use Rattle.hg_sets.specs.Interning.{first_table};
+ghost use Rattle.hg_sets.specs.Interning.{Table, first_table};
 ghost use Rattle.hg_sets.specs.declared.table.TheConstants as sets;
 ghost use Rattle.hg_shards.specs.Reading.{HasRead};
 ghost use Rattle.hg_shards.specs.Stopping as spec;
 
 use crate::cursor::{Cursor, new_cursor, read_next};
+use crate::routes::Routes;
 use crate::shards::{Cause, Shards, Stop};
 use hg_model::event::Named;
 use hg_model::report::Report;
@@ -17,25 +20,25 @@ use std::alloc::{AllocError, Global};
 use std::marker::Sync;
 use std::thread::Threads;
 
-/// How many events of a batch were accepted, where it stopped so.
-fn accepted_of(events: &[Named], stop: Option<Stop>) -> usize
-    ensures { result ≡ spec.accepted_of events.now stop }
+/// How many events of a batch of so many were accepted, where it stopped so.
+fn accepted_of(count: usize, stop: Option<Stop>) -> usize
+    ensures { (events : List Named) → length events ≡ count → result ≡ spec.accepted_of events stop }
 {
     match stop {
-        None => events.len(),
+        None => count,
         Some(stop) => stop.place,
     }
 }
 
-/// Where one detector stops in a batch, which had accepted `before` events in front of it. `first` is the first stop of the shards, and
-/// `found` the event at which they have more sets together than one table has room for.
-fn one_stop(before: u64, events: &[Named], first: Option<Stop>, found: Option<u64>) -> Option<Stop>
-    ensures { result ≡ spec.one_stop before events.now first found }
+/// Where one detector stops in a batch of so many events, which had accepted `before` events in front of it. `first` is the first stop of
+/// the shards, and `found` the event at which they have more sets together than one table has room for.
+fn one_stop(before: u64, count: usize, first: Option<Stop>, found: Option<u64>) -> Option<Stop>
+    ensures { (events : List Named) → length events ≡ count → result ≡ spec.one_stop before events first found }
 {
     let Some(event) = found else {
         return first;
     };
-    if before < event && event - before <= accepted_of(events, first) as u64 {
+    if before < event && event - before <= accepted_of(count, first) as u64 {
         return Some(Stop {
             place: (event - before - 1) as usize,
             cause: Cause::Refused(Refusal::FullSets),
@@ -70,7 +73,7 @@ pub struct Judge {
 }
 
 impl Judge {
-    ghost use Rattle.hg_shards.specs.Judging.{IsAt, Judges, NextReport, parts_of};
+    ghost use Rattle.hg_shards.specs.Judging.{Concludes, IsAt, Judges, JudgesRoutes, NextReport, parts_of};
 
     /// The judge of an empty trace by `count` parts, with at most `most_sets` sets of threads and of locks: 1 to 262,144. The one
     /// refusal is `OutOfMemory`.
@@ -79,6 +82,7 @@ impl Judge {
         requires least { 1 ≤ most_sets }
         requires greatest { most_sets ≤ MOST_SETS }
         ensures begins { IfOk result (IsAt empty_content (first_table most_sets)) }
+        ensures parts { IfOk result (λ j. parts_of j ≡ count) }
         ensures refusal { IfErr result (λ r. r ≡ Refusal.OutOfMemory) }
     {
         Ok(Judge {
@@ -102,14 +106,47 @@ impl Judge {
         ensures refusal { IfErr result (λ r. r ≡ Refusal.OutOfMemory) }
     {
         let first = self.shards.offer_all(rt, events);
+        self.conclude(alloc, events.len(), first)
+    }
+
+    /// Offers a batch of events in lists, which a source numbers one after another from `first` on, to all parts side by side: what
+    /// `offer_all` answers to these events is answered.
+    pub fn offer_routes<T: Threads + Sync>(
+        &mut self,
+        alloc: Global,
+        rt: &T,
+        source: u16,
+        first: u64,
+        routes: &Routes,
+    ) -> Result<Option<Stop>, Refusal>
+        requires { length routes.now.lists.items ≡ parts_of self.old }
+        ensures parts { parts_of self.new ≡ parts_of self.old }
+        ensures judged { IfOk result (λ stop. JudgesRoutes self.old source first routes.now stop self.new) }
+        ensures refusal { IfErr result (λ r. r ≡ Refusal.OutOfMemory) }
+    {
+        let found = self.shards.offer_routes(rt, source, first, routes);
+        self.conclude(alloc, routes.count() as usize, found)
+    }
+
+    /// Where one detector stops in a batch of so many events, which the shards were offered, by the first of their stops.
+    fn conclude(
+        &mut self,
+        alloc: Global,
+        count: usize,
+        first: Option<Stop>,
+    ) -> Result<Option<Stop>, Refusal>
+        ensures rest { self.new ≡ record self.old { events = self.new.events } }
+        ensures stop { IfOk result (λ stop. Concludes self.old count first stop self.new) }
+        ensures refusal { IfErr result (λ r. r ≡ Refusal.OutOfMemory) }
+    {
         let Ok(found) = self.shards.first_full(alloc, self.limit) else {
             return Err(Refusal::OutOfMemory);
         };
-        let stop = one_stop(self.events, events, first, found);
+        let stop = one_stop(self.events, count, first, found);
         if is_for_memory(stop) {
             return Err(Refusal::OutOfMemory);
         }
-        self.events = self.events.saturating_add(accepted_of(events, stop) as u64);
+        self.events = self.events.saturating_add(accepted_of(count, stop) as u64);
         Ok(stop)
     }
 
@@ -118,6 +155,17 @@ impl Judge {
         ensures { result ≡ self.now.events }
     {
         self.events
+    }
+
+    /// How many thread segments the trace has, where the judge did not stop.
+    pub fn segments(&self) -> usize
+        ensures { (c : Content) (table : Table) → IsAt c table self.now → result ≡ length c.segments }
+    {
+        let shards = self.shards.as_slice();
+        if shards.is_empty() {
+            return 0;
+        }
+        shards[0].detector().segments().len()
     }
 
     /// A cursor that has read no report. It takes memory for a number of each part.

@@ -4,7 +4,7 @@ ghost use Rattle.std.specs.Prelude.{◌≡◌, ◌<◌, ◌≤◌, IfOk, IfErr};
 ghost use Rattle.hg_model.specs.Accessing.{access_named};
 ghost use Rattle.hg_model.specs.Holding.{hold_named};
 ghost use Rattle.hg_detect.specs.Answering.{AnswersOffer, is_accepted};
-ghost use Rattle.hg_shards.specs.Sharding.{AnswersShard, BeginsFor, IsCutTo, IsReady, LogGoes, PassesOthers, WantsOwnRoom, page_part, words_of};
+ghost use Rattle.hg_shards.specs.Sharding.{AnswersShard, BeginsFor, IsCutTo, IsReady, LogGoes, PassesOthers, PassesOver, WantsOwnRoom, page_part, words_of};
 
 use crate::set_log::SetLog;
 use hg_cells::paged::PagedWords;
@@ -196,6 +196,16 @@ impl Shard {
             Event::Write(access) => self.touch(named.source, named.number, *access, true),
             _ => self.detector.apply(named),
         }
+    }
+
+    /// Passes over so many accesses at once, which a source numbered one after another, and which touch words of other parts alone. They
+    /// are counted, and nothing else changes. It takes no memory, and constant time.
+    #[inline(always)]
+    pub fn pass_all(&mut self, source: u16, count: u64)
+        requires ready { IsReady self.old }
+        ensures { PassesOver self.old source count self.new }
+    {
+        self.detector.pass_all(source, count);
     }
 
     /// For each set of the detector's table, the event of the trace that asked for it first.

@@ -1,13 +1,17 @@
 //! The shards of all parts of a trace, which judge batches of its events side by side.
 
-ghost use Rattle.std.specs.Prelude.{◌≡◌, ◌≤◌, All, None, Ok, IfOk, IfErr};
+ghost use Rattle.std.specs.Prelude.{◌≡◌, ◌≤◌, All, None, Ok, IfOk, IfErr, length};
 ghost use denote.Param.Send.{IsSync};
 ghost use Rattle.hg_shards.specs.Batches.{AllBegin, TakeBatch, TakesBatch, cause_of, earlier_stop};
 ghost use Rattle.hg_shards.specs.Filling.{IsFirstFull, logged};
+ghost use Rattle.hg_shards.specs.Routed.{TakeLists};
 ghost use Rattle.hg_shards.specs.Readiness.{all_ready_prop};
+ghost use Rattle.hg_shards.specs.Routing.{items_of};
 ghost use Rattle.hg_shards.specs.Sharding.{IsReady};
 
 use crate::full::first_full;
+use crate::lists::offer_lists;
+use crate::routes::{OwnAccess, Placed, Routes};
 use crate::shard::Shard;
 use hg_detect::detector::Answer;
 use hg_model::event::Named;
@@ -37,7 +41,7 @@ pub struct Stop {
 
 /// Why an event with this answer was not accepted, or None where it was.
 #[inline(always)]
-fn unaccepted(answer: Result<Answer, Refusal>) -> Option<Cause>
+pub(crate) fn unaccepted(answer: Result<Answer, Refusal>) -> Option<Cause>
     ensures { result ≡ cause_of answer }
 {
     match answer {
@@ -112,6 +116,49 @@ fn offer_side_by_side<T: Threads + Sync>(
     earlier(one, other)
 }
 
+/// Offers each shard what stands in the list of its part and in the common one, of so many events that a source numbers from `first` on.
+/// Each of them has a thread of its own, as far as threads can be started.
+#[cycle(routed)]
+fn offer_lists_side_by_side<T: Threads + Sync>(
+    rt: &T,
+    source: u16,
+    first: u64,
+    lists: &[Vec<OwnAccess>],
+    common: &[Placed],
+    count: u32,
+    shards: &mut [Shard],
+) -> Option<Stop>
+    requires same { length lists.now ≡ length shards.old }
+    requires ready { All IsReady shards.old }
+    ensures { TakeLists source first common.now count shards.old (items_of lists.now) result shards.new }
+{
+    if shards.is_empty() {
+        return None;
+    }
+    if shards.len() == 1 {
+        return offer_lists(&mut shards[0], source, first, &lists[0], common, count);
+    }
+    let half = shards.len() / 2;
+    let (left, right) = lists.split_at(half);
+    let (front, back) = shards.split_at_mut(half);
+    let (front_stop, back_stop) = join_mut(
+        rt,
+        &mut || -> Option<Stop>
+            requires crosses { IsSync T.row }
+            requires same { length left.now ≡ length front.now }
+            requires ready { All IsReady front.now }
+            ensures { TakeLists source first common.entry.now count front.entry.now (items_of left.entry.now) result front.exit.now }
+        { offer_lists_side_by_side(rt, source, first, left, common, count, front) },
+        &mut || -> Option<Stop>
+            requires crosses { IsSync T.row }
+            requires same { length right.now ≡ length back.now }
+            requires ready { All IsReady back.now }
+            ensures { TakeLists source first common.entry.now count back.entry.now (items_of right.entry.now) result back.exit.now }
+        { offer_lists_side_by_side(rt, source, first, right, common, count, back) },
+    );
+    earlier(front_stop, back_stop)
+}
+
 /// A shard for each part of a trace, in order.
 #[derive(Drop)]
 pub struct Shards {
@@ -141,6 +188,30 @@ impl Shards {
         ensures { TakeBatch self.old.shards.items events.now result self.new.shards.items }
     {
         offer_side_by_side(rt, events, &mut self.shards)
+    }
+
+    /// Offers a batch of events in lists to all shards side by side: to each what stands in the list of its part and in the common one, in
+    /// order up to the first event that it does not accept. The source numbers the events from `first` on. The answer is the first of
+    /// these, or None where all were accepted. Where no thread can be started, the caller's does the work.
+    pub fn offer_routes<T: Threads + Sync>(
+        &mut self,
+        rt: &T,
+        source: u16,
+        first: u64,
+        routes: &Routes,
+    ) -> Option<Stop>
+        requires { length routes.now.lists.items ≡ length self.old.shards.items }
+        ensures { TakeLists source first routes.now.common.items routes.now.count self.old.shards.items (items_of routes.now.lists.items) result self.new.shards.items }
+    {
+        offer_lists_side_by_side(
+            rt,
+            source,
+            first,
+            routes.lists(),
+            routes.common(),
+            routes.count(),
+            &mut self.shards,
+        )
     }
 
     /// The event that one detector of the whole trace refuses, since its table of sets has room for `limit` and is full, or None where

@@ -3,6 +3,7 @@ use Rattle.hg_model.specs.declared.event.Event.{Event}
 use Rattle.hg_cells.specs.contracts.paged.PagedWordsWords.TheImpl as paged
 use Rattle.hg_detect.specs.Memory.{content_of}
 use Rattle.hg_shards.specs.Sharding.{WantsOwnRoom, own_words}
+use Rattle.hg_shards.proofs.Going.{offer_goes}
 use Rattle.hg_shards.proofs.Noting.{asks_none_of, offer_counts, offer_grows, offer_keeps}
 use Rattle.hg_shards.proofs.Offering.{no_access, offers_own, own_other, shard_answers}
 use Rattle.hg_shards.proofs.Sharding.{same_verdict}
@@ -18,6 +19,7 @@ returns-in_default-clause-answers c =
     (offer_grows _ old.detector n c.apply.result d whole c.apply.ensures)
     (offer_counts _ old.detector n c.apply.result d whole c.apply.ensures)
     (inl (refl, offer_keeps _ old.detector n c.apply.result d whole c.apply.ensures (asks_none_of (content_of old.detector) n.event c.in_default.not-Read c.in_default.not-Write)))
+    (offer_goes _ old.detector d n c.apply.result whole c.apply.ensures)
     c.apply.ensures.lawful
     (λ trace k. offers_own _ (own_words old) trace old.detector k n c.apply.result d
     (own_other (own_words old) (content_of old.detector) n.event c.in_default.not-Read c.in_default.not-Write) whole c.apply.ensures)

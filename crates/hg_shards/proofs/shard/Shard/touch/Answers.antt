@@ -3,6 +3,7 @@ use Rattle.hg_model.specs.Accessing.{access_event, access_named}
 use Rattle.hg_detect.specs.Memory.{content_of}
 use Rattle.hg_shards.specs.Sharding.{AnswersShard, LogGoes, own_words}
 use Rattle.hg_shards.specs.declared.shard.Shard.{Shard}
+use Rattle.hg_shards.proofs.Going.{offer_goes, pass_goes}
 use Rattle.hg_shards.proofs.Noting.{offer_counts, offer_grows, pass_counts, pass_grows, pass_keeps}
 use Rattle.hg_shards.proofs.Offering.{judged_cut, no_memory, none_passes, offers_cut, offers_pass, passed_answer, shard_answers}
 use Rattle.hg_shards.proofs.shard.Shard.touch.Goals as goal
@@ -18,6 +19,7 @@ returns-in-Some-clause-answers c =
     (offer_grows _ old.detector _ c.judge.result d whole given)
     (offer_counts _ old.detector _ c.judge.result d whole given)
     (subst (λ (s : Shard). LogGoes old c.judge.result s) c.judge.ensures.rest c.judge.ensures.log)
+    (offer_goes _ old.detector d _ c.judge.result whole given)
     given.lawful
     (λ trace k. offers_cut _ (own_words old) trace old.detector k c.args.source c.args.number c.args.write c.args.access c.in-Some.own c.judge.result d (c.in-Some.ensures c.args.write) whole given))
 
@@ -29,6 +31,7 @@ returns-in-None-clause-answers c =
     (pass_grows _ old.detector c.args.source c.args.number c.args.access c.pass.result d c.pass.ensures)
     (pass_counts _ old.detector c.args.source c.args.number c.args.access c.pass.result d c.pass.ensures)
     (inl (refl, λ accepted. pass_keeps _ old.detector c.args.source c.args.number c.args.access c.pass.result d c.pass.ensures))
+    (pass_goes _ old.detector d c.args.source c.args.number c.args.access c.pass.result c.pass.ensures)
     (c.pass.ensures.lawful c.requires.ready.whole)
     (λ trace k. offers_pass _ (own_words old) trace old.detector k c.args.source c.args.number c.args.write c.args.access c.pass.result d (c.in-None.ensures c.args.write) c.pass.ensures)
 
