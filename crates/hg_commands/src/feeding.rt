@@ -23,7 +23,8 @@ use hg_disk::Disk;
 use hg_model::event::Hold;
 use hg_model::verdict::Refusal;
 use hg_reading::ending::{Ending, ended, hold_stop, status_of_end};
-use hg_reading::sink::Sink;
+use hg_reading::queued::{Queued, offer_all};
+use hg_reading::sink::{QueueSink, Sink};
 use hg_reading::whole::read_side_by_side;
 use hg_store::devices::{Caps, Devices};
 use hg_store::store::Store;
@@ -35,7 +36,7 @@ use hg_streams::telling::end_by_fault;
 use hg_trail::Trail;
 use hg_wire::line::AccessLine;
 use hg_wire::reader::Reading;
-use std::alloc::Global;
+use std::alloc::{AllocError, Global};
 use std::io::{Read, Write};
 use std::marker::Sync;
 use std::thread::Threads;
@@ -97,6 +98,23 @@ impl<D: Disk, W: Write> Sink<W> for Feeding<D, W> {
     ghost room = { λ a b at_a at_b first n. takes_room ⟦<D as Disk>⟧ (place a.store a.fed at_a) (place b.store b.fed at_b) a.moments b.moments first n };
 
     ghost fewer = { λ s n more. takes_fewer (place s.store s.fed []) n more };
+}
+
+impl<D: Disk, W: Write> QueueSink<W> for Feeding<D, W> {
+    type Queue = Vec<Queued>;
+
+    fn new_queue(&self, alloc: Global, places: usize) -> Result<Vec<Queued>, AllocError> {
+        Vec::with_capacity(alloc, places)
+    }
+
+    fn offer_queue(
+        &mut self,
+        lines: u64,
+        queue: &Vec<Queued>,
+        output: &mut Output<W>,
+    ) -> Result<Option<Ending>, Refusal> {
+        offer_all(lines, queue.as_slice(), self, output)
+    }
 }
 
 /// Holds the last line: the end line, or the line that was refused or bad.
@@ -248,8 +266,14 @@ fn recover_and_feed<T: Threads + Sync, D: Disk, R: Read, W: Write>(
                 fed,
                 moments,
             };
-            let end =
-                feeding.feed_store(rt, settings.jobs, alloc, settings.checkpoint, input, output);
+            let end = feeding.feed_store(
+                rt,
+                settings.jobs,
+                alloc,
+                settings.checkpoint,
+                input,
+                output,
+            );
             let Feeding {
                 store,
                 fed: _,

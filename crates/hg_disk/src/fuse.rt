@@ -140,7 +140,8 @@ impl<D: Disk> Disk for FuseDisk<D> {
             return Err(DiskFault);
         }
         let answer = self.inner.read_at(at, buf);
-        self.history.note_answer(Call::Read { at }, &[], answer.is_ok())
+        self.history
+            .note_answer(Call::Read { at }, &[], answer.is_ok())
     }
 
     fn write_at(&mut self, at: u64, bytes: &[u8]) -> Result<(), DiskFault>

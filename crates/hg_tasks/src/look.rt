@@ -166,7 +166,13 @@ impl<'a> Disk for LookDisk<'a> {
 
     fn read_at(&mut self, at: u64, buf: &mut [u8]) -> Result<(), DiskFault> {
         let answer = fill(&mut self.base, &self.scratch, at, buf);
-        note(&mut self.events, &mut self.error, Call::Read { at }, &[], answer)
+        note(
+            &mut self.events,
+            &mut self.error,
+            Call::Read { at },
+            &[],
+            answer,
+        )
     }
 
     fn write_at(&mut self, at: u64, bytes: &[u8]) -> Result<(), DiskFault> {
