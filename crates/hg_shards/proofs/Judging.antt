@@ -80,7 +80,7 @@ accepted_before [] past h = h
 accepted_before (n ∷ more) past h = accepted_before more past h.0
 
 -- an accepted trace has no more than 2^58 events
-few_events : (trace : List Named) → IsAccepted trace → length trace ≤ 2 ^ 58
+pub few_events : (trace : List Named) → IsAccepted trace → length trace ≤ 2 ^ 58
 few_events [] h = omega arith
 few_events (n ∷ past) h =
     let few = leb-false (2 ^ 58) (length past) (no_cause (standing_of (summary past)) n h.1).1.1.1.1.1.1.1.1.1.1.1.1.1.1.1.1.0 in

@@ -30,5 +30,6 @@ mod Seeing
 mod Reading
 mod Judging
 mod Routed
+mod Totals
 mod Summaries
 mod Rows

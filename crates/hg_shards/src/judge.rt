@@ -1,16 +1,17 @@
 //! All parts of a trace as one detector, which judges batches of its events side by side.
 
-ghost use Rattle.std.specs.Prelude.{◌≡◌, ◌≤◌, List, [], IfErr, IfOk, length};
+ghost use Rattle.std.specs.Prelude.{◌≡◌, ◌<◌, ◌≤◌, ◌^◌, List, [], IfErr, IfOk, length};
 ghost use Rattle.hg_model.specs.declared.event.Named.{Named};
 ghost use Rattle.hg_model.specs.Contents.{Content};
 ghost use Rattle.hg_model.specs.Change.{empty_content};
 ghost use Rattle.hg_sets.specs.Interning.{Table, first_table};
 ghost use Rattle.hg_sets.specs.declared.table.TheConstants as sets;
-ghost use Rattle.hg_shards.specs.Reading.{HasRead};
+ghost use Rattle.hg_shards.specs.Reading.{HasRead, total_of};
 ghost use Rattle.hg_shards.specs.Stopping as spec;
 
 use crate::cursor::{Cursor, new_cursor, read_next};
 use crate::routes::Routes;
+use crate::shard::Shard;
 use crate::shards::{Cause, Shards, Stop};
 use hg_model::event::Named;
 use hg_model::report::Report;
@@ -58,6 +59,17 @@ fn is_for_memory(stop: Option<Stop>) -> bool
             Cause::Refused(refusal) => refusal == Refusal::OutOfMemory,
         },
     }
+}
+
+/// How many reports the shards have together, or 2^64 - 1 where they have more.
+fn total_up_to_most(shards: &[Shard]) -> u64
+    ensures { total_of shards.now < 2 ^ 64 → result ≡ total_of shards.now }
+{
+    let mut total: u64 = 0;
+    for shard in shards {
+        total = total.saturating_add(shard.detector().total());
+    }
+    total
 }
 
 /// A detector of a whole trace, whose words are judged by parts. It is offered batches of events.
@@ -166,6 +178,13 @@ impl Judge {
             return 0;
         }
         shards[0].detector().segments().len()
+    }
+
+    /// How many reports the trace has, kept or not, where the judge did not stop.
+    pub fn total(&self) -> u64
+        ensures { (c : Content) (table : Table) → IsAt c table self.now → result ≡ c.total }
+    {
+        total_up_to_most(self.shards.as_slice())
     }
 
     /// A cursor that has read no report. It takes memory for a number of each part.
