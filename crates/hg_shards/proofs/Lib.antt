@@ -24,10 +24,12 @@ mod Passing
 mod Routing
 mod Together
 mod Filling
+mod Growing
 mod Batches
 mod Following
 mod Seeing
 mod Reading
+mod Carrying
 mod Judging
 mod Routed
 mod Totals

@@ -25,6 +25,7 @@ use Rattle.hg_shards.specs.Pushing.{IsRouted}
 use Rattle.hg_shards.specs.Stopping.{accepted_of, is_for_memory, one_stop}
 use Rattle.hg_shards.specs.Reading.{HasRead, ReadsNext}
 use Rattle.hg_shards.specs.Sharding.{Follows, GoesOn, HasOwnSets}
+use Rattle.hg_shards.specs.Together.{HasTaken}
 
 -- ---- one detector with one table of sets
 
@@ -72,13 +73,14 @@ pub record HasJudged (trace : List Named) (j : Judge) : Type 0 where
   pub parts : AreAllParts (GoesOn trace) j.shards.shards.items
 
 -- The judge stands at this content, as one detector with this table would: the content is that of a trace which each shard follows
--- to its end, and the table has the sets that this trace asks for.
+-- to its end, and the table has the sets that this trace asks for. The sets that the judge took together are those that were made first.
 pub record IsAt (c : Content) (table : Table) (j : Judge) : Type 0 where
   pub trace : List Named
   pub content : c ≡ summary trace
   pub judged : HasJudged trace j
   pub parts : AreAllParts (KnowsTrace j.limit trace) j.shards.shards.items
   pub sets : HasSets j.limit (asked anywhere (events_of trace)) table
+  pub taken : HasTaken j.limit j.shards.shards.items j.taking
 
 -- The judge has all reports of this content. Some of its shards may have gone further: then it can't go on.
 pub record HasReports (c : Content) (j : Judge) : Type 0 where
@@ -117,7 +119,8 @@ Judges old events stop new = (c : Content) (table : Table) → IsAt c table old 
 -- The stop of a batch of so many events, by the first stop of the shards that were offered it.
 pub record Concludes (old : Judge) (count : ℕ) (first : Option Stop) (stop : Option Stop) (new : Judge) : Type 0 where
   pub found : Option ℕ
-  pub full : IsFirstFull old.limit old.shards.shards.items found
+  pub full : HasTaken old.limit old.shards.shards.items old.taking → IsFirstFull old.limit old.shards.shards.items found
+  pub taken : HasTaken old.limit old.shards.shards.items old.taking → HasTaken old.limit old.shards.shards.items new.taking
   pub stop_is : (events : List Named) → length events ≡ count → stop ≡ one_stop old.events events first found
   pub counts : (events : List Named) → length events ≡ count → old.events + accepted_of events stop < 2 ^ 64 → new.events ≡ old.events + accepted_of events stop
   pub no_memory : is_for_memory stop ≡ false

@@ -8,8 +8,10 @@ ghost use Rattle.hg_sets.specs.Interning.{Table, first_table};
 ghost use Rattle.hg_sets.specs.declared.table.TheConstants as sets;
 ghost use Rattle.hg_shards.specs.Reading.{HasRead, total_of};
 ghost use Rattle.hg_shards.specs.Stopping as spec;
+ghost use Rattle.hg_shards.specs.Together.{parts_taken};
 
 use crate::cursor::{Cursor, new_cursor, read_next};
+use crate::full::{Taking, go_on};
 use crate::routes::Routes;
 use crate::shard::Shard;
 use crate::shards::{Cause, Shards, Stop};
@@ -80,8 +82,11 @@ pub struct Judge {
     limit: u32,
     /// How many events of the trace were accepted.
     events: u64,
+    /// The sets of all parts in one table, where they were more than the limit together.
+    taking: Option<Taking>,
     ghost least: { 1 ≤ limit },
     ghost greatest: { limit ≤ sets.MOST_SETS },
+    ghost counts: { parts_taken (length shards.shards.items) taking ≡ length shards.shards.items },
 }
 
 impl Judge {
@@ -101,6 +106,7 @@ impl Judge {
             shards: Shards::new(alloc, count, most_sets)?,
             limit: most_sets,
             events: 0,
+            taking: None,
         })
     }
 
@@ -147,11 +153,12 @@ impl Judge {
         count: usize,
         first: Option<Stop>,
     ) -> Result<Option<Stop>, Refusal>
-        ensures rest { self.new ≡ record self.old { events = self.new.events } }
+        ensures shards { self.new.shards ≡ self.old.shards }
+        ensures limit { self.new.limit ≡ self.old.limit }
         ensures stop { IfOk result (λ stop. Concludes self.old count first stop self.new) }
         ensures refusal { IfErr result (λ r. r ≡ Refusal.OutOfMemory) }
     {
-        let Ok(found) = self.shards.first_full(alloc, self.limit) else {
+        let Ok(found) = go_on(alloc, self.limit, self.shards.as_slice(), &mut self.taking) else {
             return Err(Refusal::OutOfMemory);
         };
         let stop = one_stop(self.events, count, first, found);
