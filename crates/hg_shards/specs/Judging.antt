@@ -1,5 +1,5 @@
 -- All parts of a trace as one detector, which judges batches of events.
-use Rattle.std.specs.Prelude.{◌≡◌, ◌⊎◌, ℕ, ◌+◌, ◌^◌, ◌<◌, ◌≤◌, false, List, [], ◌∷◌, ◌++◌, length, take, slice_get, Option, Some, None}
+use Rattle.std.specs.Prelude.{◌≡◌, ◌⊎◌, ℕ, ◌+◌, ◌^◌, ◌<◌, ◌≤◌, Bool, false, nat_lt, List, [], ◌∷◌, ◌++◌, length, take, slice_get, Option, Some, None}
 use Rattle.hg_model.specs.declared.event.Named.{Named}
 use Rattle.hg_model.specs.declared.verdict.Refusal.TheVariants.{FullSets}
 use Rattle.hg_model.specs.declared.verdict.Verdict.TheVariants as verdicts
@@ -147,3 +147,7 @@ abbrev pub NextReport : Judge → Cursor → Option Report → Cursor → Type 0
 NextReport j old found new =
     (c : Content) (front rest : List Report) → HasReports c j → HasRead (parts_of j) front old → c.reports ≡ front ++ rest
     → ReadsNext (parts_of j) front rest found new
+
+-- Shards that follow a trace of so many events, or go further, tell whether the trace has reports.
+abbrev pub TellsRaces : List Shard → ℕ → Bool → Type 0
+TellsRaces shards last answer = (trace : List Named) → last ≡ length trace → AreAllParts (GoesOn trace) shards → answer ≡ nat_lt 0 (summary trace).total
