@@ -15,13 +15,14 @@ use Rattle.hg_shards.specs.declared.shards.Cause.{Cause}
 use Rattle.hg_shards.specs.declared.shards.Cause.TheVariants as causes
 use Rattle.hg_shards.specs.declared.shards.Stop.{Stop}
 use Rattle.hg_shards.specs.Batches.{BeginUpTo, EachTakes, TakeBatch, TakesAll, TakesBatch, cause_of, earlier_stop, first_stop}
-use Rattle.hg_shards.specs.Sharding.{AnswersShard, BeginsFor, Follows, HasOwnSets, IsReady}
+use Rattle.hg_shards.specs.Sharding.{AnswersShard, BeginsFor, Follows, GrowsTo, HasOwnSets, IsReady}
+use Rattle.hg_shards.proofs.Growing.{grows_not, grows_on}
 
 -- ---- one shard
 
 -- no event was offered yet
 pub takes_none : (s : Shard) → IsReady s → TakesAll s [] s
-takes_none s ready = record { rest = refl; ready = ready; follows = λ trace k. k; sets = λ trace k limit own. own }
+takes_none s ready = record { rest = refl; ready = ready; grows = grows_not s; follows = λ trace k. k; sets = λ trace k limit own. own }
 
 -- an event without a cause was accepted
 pub accepted_by : (answer : Result Answer Refusal) → ((cause : Cause) → cause_of answer ≡ Some cause → ⊥) → answer ≡ Ok answers.Accepted
@@ -43,6 +44,7 @@ takes_more old mid new events i n at all answer was given =
     record {
       rest = a.rest ∙ ap (λ (s : Shard). record s { detector = new.detector; log = new.log }) all.rest;
       ready = a.ready;
+      grows = grows_on old mid new all.grows a.moves.grows;
       follows = λ trace k. subst (λ (past : List Named). Follows past new) (sym (turned trace)) (a.after_any (before trace) (all.follows trace k)).follows;
       sets = λ trace k limit own. subst (λ (past : List Named). HasOwnSets limit past new) (sym (turned trace)) ((a.after_any (before trace) (all.follows trace k)).sets limit (all.sets trace k limit own) refl);
     }
@@ -52,6 +54,11 @@ takes_more old mid new events i n at all answer was given =
 
     turned : (trace : List Named) → reverse (take (i + 1) events) ++ trace ≡ n ∷ before trace
     turned trace = one_onto events i n trace at
+
+-- a shard that was offered a batch grew, whether it stopped or not
+pub grows_by : (old new : Shard) (events : List Named) (stop : Option Stop) → TakesBatch old events stop new → GrowsTo old new
+grows_by old new events None h = subst (GrowsTo old) (sym h.stops) h.takes.grows
+grows_by old new events (Some stop) h = grows_on old h.between new h.takes.grows h.stops.2.answers.moves.grows
 
 -- ---- the first of several stops
 

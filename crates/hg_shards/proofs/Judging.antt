@@ -29,6 +29,7 @@ use Rattle.hg_detect.specs.declared.detector.Answer.TheVariants as answers
 use Rattle.hg_detect.specs.Answering.{Applies, is_accepted}
 use Rattle.hg_detect.specs.Making.{Asks}
 use Rattle.hg_shards.specs.Alike.{reports_within}
+use Rattle.hg_shards.specs.declared.full.Taking.{Taking}
 use Rattle.hg_shards.specs.declared.judge.Judge.{Judge}
 use Rattle.hg_shards.specs.declared.shard.Shard.{Shard}
 use Rattle.hg_shards.specs.declared.shards.Cause.{Cause}
@@ -41,8 +42,10 @@ use Rattle.hg_shards.specs.Following.{upto}
 use Rattle.hg_shards.specs.Judging.{Accepts, AcceptsAll, AreAllParts, ArePartsFrom, HasJudged, IsAt, IsFullAt, IsPart, Judges, KnowsTrace, LeadsBy, StopsAt, StopsFor}
 use Rattle.hg_shards.specs.Stopping.{accepted_of, is_for_memory, one_stop, wants_memory}
 use Rattle.hg_shards.specs.Sharding.{AtEachEvent, BeginsFor, GoesOn, HasMade, own_words, verdict_after}
+use Rattle.hg_shards.specs.Together.{HasTaken}
 use Rattle.hg_shards.proofs.Asking.{sets_are_lem}
 use Rattle.hg_shards.proofs.Batches.{one_onto}
+use Rattle.hg_shards.proofs.Carrying.{each_batch_grows, still_taken}
 use Rattle.hg_shards.proofs.Following.{earlier_accepted, follows_on, moves_on}
 use Rattle.hg_shards.proofs.Merging.{each_filter}
 use Rattle.hg_shards.proofs.Logging.{all_both, all_weaker}
@@ -80,7 +83,7 @@ accepted_before [] past h = h
 accepted_before (n ∷ more) past h = accepted_before more past h.0
 
 -- an accepted trace has no more than 2^58 events
-few_events : (trace : List Named) → IsAccepted trace → length trace ≤ 2 ^ 58
+pub few_events : (trace : List Named) → IsAccepted trace → length trace ≤ 2 ^ 58
 few_events [] h = omega arith
 few_events (n ∷ past) h =
     let few = leb-false (2 ^ 58) (length past) (no_cause (standing_of (summary past)) n h.1).1.1.1.1.1.1.1.1.1.1.1.1.1.1.1.1.0 in
@@ -573,7 +576,7 @@ module _ (limit : ℕ) (trace : List Named) (table : Table) (events : List Named
       sym (at_end (λ past. nat_lt limit (size_with (asked anywhere (events_of past))) ≡ is_found_by (length past) found) trace (sizes_at 0 (omega arith)))
       ∙ le-ltb limit (size_with (asked anywhere (events_of trace))) (omega (arith, size, within))
 
-  module _ (new : Judge) (limit_is : new.limit ≡ limit) (shards_are : new.shards.shards.items ≡ news) where
+  module _ (new : Judge) (limit_is : new.limit ≡ limit) (shards_are : new.shards.shards.items ≡ news) (taken : HasTaken limit news new.taking) where
     judged_at : (m : ℕ) → m ≤ reached → new.events ≡ length (with_events m) → HasJudged (with_events m) new
     judged_at m le counts =
         record {
@@ -604,6 +607,8 @@ module _ (limit : ℕ) (trace : List Named) (table : Table) (events : List Named
                   (all_known events trace limit count 0 sees b.stops news b.each (sym b.first_is ∙ is) (ok_at (length events) (omega (arith, whole, le)))))),
             );
             sets = subst (λ (l : ℕ). HasSets l (asked anywhere (events_of (with_events m))) done.filled) (sym limit_is) done.sets;
+            taken = subst (λ (l : ℕ). HasTaken l new.shards.shards.items new.taking) (sym limit_is)
+                (subst (λ (shards : List Shard). HasTaken limit shards new.taking) (sym shards_are) taken);
           };
         }
       where
@@ -716,32 +721,37 @@ module _ (limit : ℕ) (trace : List Named) (table : Table) (events : List Named
 -- What a batch leads to, by what it came to at the shards of all parts.
 pub judges_by : (old new : Judge) (events : List Named) (first : Option Stop) (found : Option ℕ) (news : List Shard) (stop : Option Stop) (count : ℕ) (sees : ℕ → Event → Bool)
     → ((trace : List Named) (table : Table) → IsAccepted trace → AreAllParts (KnowsTrace old.limit trace) old.shards.shards.items → HasSets old.limit (asked anywhere (events_of trace)) table
-    → IsBatch old.limit trace table events first found count sees news)
+    → HasTaken old.limit old.shards.shards.items old.taking → IsBatch old.limit trace table events first found count sees news × HasTaken old.limit news new.taking)
     → stop ≡ one_stop old.events events first found → new.limit ≡ old.limit → new.shards.shards.items ≡ news
     → (old.events + accepted_of events stop < 2 ^ 64 → new.events ≡ old.events + accepted_of events stop) → is_for_memory stop ≡ false → Judges old events stop new
 judges_by old new events first found news stop count sees batch stop_is limit_is shards_are counts not = λ c table h.
     subst (λ (d : Content). LeadsBy d table events stop new) (sym h.content)
     (subst (λ (s : Option Stop). LeadsBy (summary h.trace) table events s new) (sym stop_is)
-    (lead old.limit h.trace table events first found count sees news (batch h.trace table h.judged.accepted h.parts h.sets) new limit_is shards_are old.events h.judged.count found refl
+    (let b = batch h.trace table h.judged.accepted h.parts h.sets h.taken in
+    lead old.limit h.trace table events first found count sees news b.0 new limit_is shards_are b.1 old.events h.judged.count found refl
     (subst (λ (s : Option Stop). old.events + accepted_of events s < 2 ^ 64 → new.events ≡ old.events + accepted_of events s) stop_is counts)
     (ap is_for_memory (sym stop_is) ∙ not)))
 
-pub judges_lem : (old new : Judge) (events : List Named) (first : Option Stop) (found : Option ℕ) (news : List Shard) (stop : Option Stop) → TakeBatch old.shards.shards.items events first news → IsFirstFull old.limit news found
-    → stop ≡ one_stop old.events events first found → new.limit ≡ old.limit → new.shards.shards.items ≡ news
+pub judges_lem : (old new : Judge) (events : List Named) (first : Option Stop) (found : Option ℕ) (news : List Shard) (stop : Option Stop) → TakeBatch old.shards.shards.items events first news
+    → (HasTaken old.limit news old.taking → IsFirstFull old.limit news found × HasTaken old.limit news new.taking) → stop ≡ one_stop old.events events first found → new.limit ≡ old.limit → new.shards.shards.items ≡ news
     → (old.events + accepted_of events stop < 2 ^ 64 → new.events ≡ old.events + accepted_of events stop) → is_for_memory stop ≡ false → Judges old events stop new
 judges_lem old new events first found news stop took full =
     judges_by old new events first found news stop (length old.shards.shards.items) sees_all
-    (λ trace table ok all has.
-    record {
-      stops = took.stops;
-      each = each_batch events trace old.limit (length old.shards.shards.items) 0 old.shards.shards.items took.stops news took.each all.1;
-      first_is = took.first_is;
-      seen = λ e. (0, all.0, refl);
-      some = all.0;
-      full = full;
-      has = has;
-      ok = ok;
-    })
+    (λ trace table ok all has taken.
+    let now = full
+    (still_taken old.limit trace (length old.shards.shards.items) old.shards.shards.items news old.taking old.shards.ready all.1 (each_batch_grows old.shards.shards.items events took.stops news took.each) taken) in (
+      record {
+        stops = took.stops;
+        each = each_batch events trace old.limit (length old.shards.shards.items) 0 old.shards.shards.items took.stops news took.each all.1;
+        first_is = took.first_is;
+        seen = λ e. (0, all.0, refl);
+        some = all.0;
+        full = now.0;
+        has = has;
+        ok = ok;
+      },
+      now.1,
+    ))
 
 begins_from : (count limit k : ℕ) (shards : List Shard) → k + length shards ≡ count → ((j : ℕ) (d : Shard) → j < length shards → BeginsFor count (k + j) limit (get_or shards j d))
     → ArePartsFrom (KnowsTrace limit []) count k shards × ArePartsFrom (GoesOn []) count k shards
@@ -753,8 +763,8 @@ begins_from count limit k (s ∷ shards) all h =
       (record { count_is = one.count_is; part_is = one.part_is; has = follows_on [] s limit one.follows one.sets }, rest.1),
     )
 
-pub begins_lem : (count limit : ℕ) (j : Judge) → 0 < count → 0 < limit → AllBegin count limit j.shards.shards.items → j.limit ≡ limit → j.events ≡ 0 → IsAt empty_content (first_table limit) j
-begins_lem count limit j some room h limit_is none =
+pub begins_lem : (count limit : ℕ) (j : Judge) → 0 < count → 0 < limit → AllBegin count limit j.shards.shards.items → j.limit ≡ limit → j.events ≡ 0 → j.taking ≡ None → IsAt empty_content (first_table limit) j
+begins_lem count limit j some room h limit_is none no_table =
     let len = h.count_is in
     let both = begins_from count limit 0 j.shards.shards.items (omega (arith, len)) (λ k d lt. subst (λ (m : ℕ). BeginsFor count m limit (get_or j.shards.shards.items k d)) (let e : k ≡ 0 + k = omega arith in e) (h.begin k d (omega (arith, len, lt)))) in
     record {
@@ -767,4 +777,5 @@ begins_lem count limit j some room h limit_is none =
             (subst (λ (n : ℕ). ArePartsFrom (KnowsTrace limit []) n 0 j.shards.shards.items) (sym len) both.0),
       );
       sets = subst (λ (l : ℕ). HasSets l [] (first_table limit)) (sym limit_is) (tables_answer_lem limit room).0;
+      taken = subst (λ (t : Option Taking). HasTaken j.limit j.shards.shards.items t) (sym no_table) tt;
     }

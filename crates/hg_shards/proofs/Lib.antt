@@ -24,11 +24,14 @@ mod Passing
 mod Routing
 mod Together
 mod Filling
+mod Growing
 mod Batches
 mod Following
 mod Seeing
 mod Reading
+mod Carrying
 mod Judging
 mod Routed
+mod Totals
 mod Summaries
 mod Rows

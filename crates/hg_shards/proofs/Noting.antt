@@ -1,5 +1,5 @@
 -- What an offered event does to the log of a shard.
-use Rattle.std.proofs.Common.{◌≡◌, ◌⊎◌, ℕ, ◌+◌, ◌-◌, ◌≤◌, Bool, true, false, List, [], ◌∷◌, ◌++◌, length, replicate, Result, Ok, Err, Option, Some, None, Contains, refl, sym, ap, ◌∙◌, subst, ⊎_elim, arith, append-nil, append_assoc, length-append}
+use Rattle.std.proofs.Common.{◌≡◌, ◌⊎◌, ℕ, ◌+◌, ◌-◌, ◌<◌, ◌≤◌, Bool, true, false, List, [], ◌∷◌, ◌++◌, length, replicate, Result, Ok, Err, Option, Some, None, Contains, refl, sym, ap, ◌∙◌, subst, ⊎_elim, arith, append-nil, append_assoc, length-append}
 use Rattle.std.proofs.lemmas.Bool.{false≢true}
 use Rattle.std.proofs.lemmas.List.{length-replicate}
 use Rattle.std.specs.Prelude.{if◌then◌else◌}
@@ -28,7 +28,7 @@ use Rattle.hg_detect.specs.Making.{Asks, AsksBy, sets_asked}
 use Rattle.hg_detect.specs.Shown.{ShownDetector, content, verdict_on}
 use Rattle.hg_shards.specs.Asking.{HasSets, asked, has_set}
 use Rattle.hg_shards.specs.Logging.{Log, made_by, noted}
-use Rattle.hg_shards.specs.Sharding.{AtEachEvent, HasMade, HasOwnSets, IsLogOf, LogGoes, LogsOwnSets, made_in, own_words}
+use Rattle.hg_shards.specs.Sharding.{AtEachEvent, GrowsTo, HasMade, HasOwnSets, IsLogOf, LogGoes, LogsOwnSets, made_in, own_words}
 use Rattle.hg_shards.specs.declared.shard.Shard.{Shard}
 use Rattle.hg_shards.proofs.Logging.{all_both, all_repeat, all_weaker, made_all, made_before, made_within, rises_with}
 
@@ -220,6 +220,29 @@ module _ (old : Shard) (d : Detector PagedWords) (l : Log) (answer : Result Answ
     where
       within : made_by k d.sets.sets old.log.events ≡ made_in k old
       within = ap (λ (sets : List (List ℕ)). made_by k sets old.log.events) grows.sets ∙ made_within k old.detector.sets.sets grows.more old.log.events is_log.within
+
+  pub grows_to : GrowsTo old now
+  grows_to =
+      ⊎_elim
+      (λ (s : Stays).
+      record {
+        events = counted;
+        more_sets = grows.more;
+        sets = grows.sets;
+        more_events = [];
+        log = ap (λ (x : Log). x.events) s.0 ∙ sym (append-nil old.log.events);
+        later = tt;
+      })
+      (λ (s : Notes).
+      record {
+        events = counted;
+        more_sets = grows.more;
+        sets = grows.sets;
+        more_events = replicate (length d.sets.sets - length old.log.events) d.parts.events;
+        log = ap (λ (x : Log). x.events) s.1;
+        later = all_repeat (λ e. old.detector.parts.events < e) (length d.sets.sets - length old.log.events) d.parts.events (let e = counted_one s.0 in omega (arith, e));
+      })
+      goes
 
   pub log_stays : (trace : List Named) → length trace ≡ old.detector.parts.events → LogsOwnSets trace old → LogsOwnSets trace now
   log_stays trace all =

@@ -41,7 +41,7 @@ use Rattle.hg_shards.proofs.Asking.{sets_are_lem}
 use Rattle.hg_shards.proofs.Tables.{first_has}
 use Rattle.hg_shards.proofs.Cuts.{same_verdict_cut}
 use Rattle.hg_shards.proofs.Going.{ReportsGo}
-use Rattle.hg_shards.proofs.Noting.{Counts, Grows, accept_of, accepted_answer, log_is, log_stays, made_same, sets_stay}
+use Rattle.hg_shards.proofs.Noting.{Counts, Grows, accept_of, accepted_answer, log_is, log_stays, grows_to, made_same, sets_stay}
 use Rattle.hg_shards.proofs.Lives.{same_touch}
 use Rattle.hg_shards.proofs.Reports.{accessed_words, is_access}
 use Rattle.hg_shards.proofs.Sets.{contains_filter, has_first}
@@ -276,7 +276,14 @@ module _ (old : Shard) (d : Detector PagedWords) (l : Log) (n : Named) (answer :
       record {
         rest = refl;
         ready = record { part = ready.part; whole = whole; log = log_is old d l answer ready.log grows counts goes };
-        moves = record { events = go.events; late = go.late; reports = go.reports; later = go.later; made = made_same old d l answer ready.log grows counts goes };
+        moves = record {
+          events = go.events;
+          late = go.late;
+          reports = go.reports;
+          later = go.later;
+          made = made_same old d l answer ready.log grows counts goes;
+          grows = grows_to old d l answer ready.log grows counts goes;
+        };
         after_any = λ trace k. answer_after trace k (offers trace k);
       }
 

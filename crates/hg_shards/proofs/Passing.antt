@@ -208,6 +208,14 @@ module _ (old : Shard) (d : Detector PagedWords) (source count : ℕ) (ready : I
           reports = go.reports;
           later = go.later;
           made = λ k le. ap (λ (x : Detector PagedWords). made_by k x.sets.sets old.log.events) h.rest;
+          grows = record {
+            events = h.counts.never_less;
+            more_sets = [];
+            sets = ap (λ (x : Detector PagedWords). x.sets.sets) h.rest ∙ sym (append-nil old.detector.sets.sets);
+            more_events = [];
+            log = sym (append-nil old.log.events);
+            later = tt;
+          };
         };
         follows = λ trace events are k.
             knows_over (own_words old) source events trace old.detector d are.each are.accepted k (subst (λ (n : ℕ). PassesAll old.detector source n d) (sym are.many) h);

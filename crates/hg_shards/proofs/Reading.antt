@@ -276,7 +276,7 @@ module _ (parts : ℕ) (some : 0 < parts) (trace : List Named) (front rest : Lis
       each_filter (λ r. r.event ≤ length trace) (passes k) whole
       (each_weaker (λ (r : Report). r.event ≤ length (events_of trace)) (λ (r : Report). r.event ≤ length trace) (λ r le. let e = length_events trace in omega (arith, le, e)) whole (early (events_of trace)))
 
-  head_is : (k : ℕ) (s : Shard) → IsPart (GoesOn trace) parts k s → place_upto (length trace) (slice_get (reports_of s.detector) (count_of_part parts front k)) ≡ head_of (behind k)
+  pub head_is : (k : ℕ) (s : Shard) → IsPart (GoesOn trace) parts k s → place_upto (length trace) (slice_get (reports_of s.detector) (count_of_part parts front k)) ≡ head_of (behind k)
   head_is k s h =
       let kept = keeps k s h in
       ap (λ (rs : List Report). place_upto (length trace) (slice_get rs (count_of_part parts front k))) kept.kept

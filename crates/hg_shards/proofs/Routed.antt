@@ -14,11 +14,13 @@ use Rattle.hg_model.specs.declared.segment.Segment.{Segment}
 use Rattle.hg_model.specs.Contents.{Content}
 use Rattle.hg_model.specs.Verdicts.{IsAccepted}
 use Rattle.hg_sets.specs.Interning.{Table}
+use Rattle.hg_shards.specs.declared.full.Taking.{Taking}
 use Rattle.hg_shards.specs.declared.judge.Judge.{Judge}
 use Rattle.hg_shards.specs.declared.routes.OwnAccess.{OwnAccess}
 use Rattle.hg_shards.specs.declared.routes.Placed.{Placed}
 use Rattle.hg_shards.specs.declared.routes.Routes.{Routes}
 use Rattle.hg_shards.specs.declared.shard.Shard.{Shard}
+use Rattle.hg_shards.specs.declared.shards.Shards.{Shards}
 use Rattle.hg_shards.specs.declared.shards.Stop.{Stop}
 use Rattle.hg_shards.specs.Batches.{TakeBatch, earlier_stop, first_stop}
 use Rattle.hg_shards.specs.Following.{TakesSeen, named, upto}
@@ -29,7 +31,9 @@ use Rattle.hg_shards.specs.Routing.{common_from, is_routed, is_seen, items_of, o
 use Rattle.hg_shards.specs.Seeing.{TakesLists}
 use Rattle.hg_shards.specs.Sharding.{GoesOn, IsReady, page_part}
 use Rattle.hg_shards.specs.Stopping.{accepted_of, one_stop}
+use Rattle.hg_shards.specs.Together.{HasTaken}
 use Rattle.hg_shards.proofs.Batches.{earlier_none, first_of_both}
+use Rattle.hg_shards.proofs.Carrying.{each_list_grows, still_taken}
 use Rattle.hg_shards.proofs.Following.{moves_on}
 use Rattle.hg_shards.proofs.Judging.{EachEnds, Ends, StoppedBy, judges_by, judges_lem}
 use Rattle.hg_shards.proofs.Seeing.{named_length}
@@ -178,39 +182,54 @@ seen_by_some count (Write a) some = (page_part count (a.at / 1024), mod_below _ 
     by false other = refl
 seen_by_some count e some = (0, some, refl)
 
+-- what is concluded of the sets, by the limit and the table before the batch
+concluded : {limit : ℕ} {taking : Option Taking} (mid new : Judge) (found stop : Option Stop) (n : ℕ) → mid.limit ≡ limit → mid.taking ≡ taking → (end : Concludes mid n found stop new) → HasTaken limit mid.shards.shards.items taking
+    → IsFirstFull limit mid.shards.shards.items end.found × HasTaken limit mid.shards.shards.items new.taking
+concluded {limit} {taking} mid new found stop n limit_is taking_is end taken =
+    let before : HasTaken mid.limit mid.shards.shards.items mid.taking =
+    subst (λ (t : Option Taking). HasTaken mid.limit mid.shards.shards.items t) (sym taking_is) (subst (λ (l : ℕ). HasTaken l mid.shards.shards.items taking) (sym limit_is) taken) in (
+      subst (λ (l : ℕ). IsFirstFull l mid.shards.shards.items end.found) limit_is (end.full before),
+      subst (λ (l : ℕ). HasTaken l mid.shards.shards.items new.taking) limit_is (end.taken before),
+    )
+
 pub judges_routes : (old mid new : Judge) (source first : ℕ) (routes : Routes) (found stop : Option Stop) → TakeLists source first routes.common.items routes.count old.shards.shards.items (items_of routes.lists.items) found mid.shards.shards.items
-    → length routes.lists.items ≡ length old.shards.shards.items → mid.limit ≡ old.limit → mid.events ≡ old.events → new ≡ record mid { events = new.events } → (n : ℕ) → n ≡ routes.count
+    → length routes.lists.items ≡ length old.shards.shards.items → mid.limit ≡ old.limit → mid.events ≡ old.events → mid.taking ≡ old.taking → new.limit ≡ mid.limit → new.shards ≡ mid.shards → (n : ℕ) → n ≡ routes.count
     → Concludes mid n found stop new → JudgesRoutes old source first routes stop new
-judges_routes old mid new source first routes found stop took same limit_is events_are rest n count_is end = λ events routed fits.
+judges_routes old mid new source first routes found stop took same limit_is events_are taking_is limit_stays shards_stay n count_is end = λ events routed fits.
     let many = named_length source first events ∙ sym routed.count ∙ sym count_is in
     judges_by old new (named source first events) found end.found mid.shards.shards.items stop (length old.shards.shards.items) (is_seen (length old.shards.shards.items))
-    (λ trace table ok all has.
-    record {
-      stops = took.stops;
-      each =
-          each_list source first events fits trace old.limit (length old.shards.shards.items) 0 routes.common.items routes.count old.shards.shards.items (items_of routes.lists.items) took.stops mid.shards.shards.items took.each
-          (routed.own ∙ ap (λ n. own_lists n events) same) routed.common routed.count all.1;
-      first_is = took.first_is;
-      seen = λ e. seen_by_some (length old.shards.shards.items) e all.0;
-      some = all.0;
-      full = subst (λ (l : ℕ). IsFirstFull l mid.shards.shards.items end.found) limit_is end.full;
-      has = has;
-      ok = ok;
-    })
+    (λ trace table ok all has taken.
+    let now = concluded mid new found stop n limit_is taking_is end
+    (still_taken old.limit trace (length old.shards.shards.items) old.shards.shards.items mid.shards.shards.items old.taking old.shards.ready all.1
+    (each_list_grows source first routes.common.items routes.count old.shards.shards.items (items_of routes.lists.items) took.stops mid.shards.shards.items took.each) taken) in (
+      record {
+        stops = took.stops;
+        each =
+            each_list source first events fits trace old.limit (length old.shards.shards.items) 0 routes.common.items routes.count old.shards.shards.items (items_of routes.lists.items) took.stops mid.shards.shards.items took.each
+            (routed.own ∙ ap (λ n. own_lists n events) same) routed.common routed.count all.1;
+        first_is = took.first_is;
+        seen = λ e. seen_by_some (length old.shards.shards.items) e all.0;
+        some = all.0;
+        full = now.0;
+        has = has;
+        ok = ok;
+      },
+      now.1,
+    ))
     (end.stop_is (named source first events) many ∙ ap (λ n. one_stop n (named source first events) found end.found) events_are)
-    (ap (λ (j : Judge). j.limit) rest ∙ limit_is)
-    (ap (λ (j : Judge). j.shards.shards.items) rest)
+    (limit_stays ∙ limit_is)
+    (ap (λ (s : Shards). s.shards.items) shards_stay)
     (subst (λ (n : ℕ). n + accepted_of (named source first events) stop < 2 ^ 64 → new.events ≡ n + accepted_of (named source first events) stop) events_are (end.counts (named source first events) many))
     end.no_memory
 
 -- the same of a batch of named events
-pub judges_batch : (old mid new : Judge) (events : List Named) (found stop : Option Stop) → TakeBatch old.shards.shards.items events found mid.shards.shards.items → mid.limit ≡ old.limit → mid.events ≡ old.events
-    → new ≡ record mid { events = new.events } → Concludes mid (length events) found stop new → Judges old events stop new
-judges_batch old mid new events found stop took limit_is events_are rest end =
-    judges_lem old new events found end.found mid.shards.shards.items stop took (subst (λ (l : ℕ). IsFirstFull l mid.shards.shards.items end.found) limit_is end.full)
+pub judges_batch : (old mid new : Judge) (events : List Named) (found stop : Option Stop) → TakeBatch old.shards.shards.items events found mid.shards.shards.items → mid.limit ≡ old.limit → mid.events ≡ old.events → mid.taking ≡ old.taking
+    → new.limit ≡ mid.limit → new.shards ≡ mid.shards → Concludes mid (length events) found stop new → Judges old events stop new
+judges_batch old mid new events found stop took limit_is events_are taking_is limit_stays shards_stay end =
+    judges_lem old new events found end.found mid.shards.shards.items stop took (concluded mid new found stop (length events) limit_is taking_is end)
     (end.stop_is events refl ∙ ap (λ n. one_stop n events found end.found) events_are)
-    (ap (λ (j : Judge). j.limit) rest ∙ limit_is)
-    (ap (λ (j : Judge). j.shards.shards.items) rest)
+    (limit_stays ∙ limit_is)
+    (ap (λ (s : Shards). s.shards.items) shards_stay)
     (subst (λ (n : ℕ). n + accepted_of events stop < 2 ^ 64 → new.events ≡ n + accepted_of events stop) events_are (end.counts events refl))
     end.no_memory
 

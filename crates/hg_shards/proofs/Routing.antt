@@ -15,7 +15,7 @@ use Rattle.hg_shards.specs.declared.routes.OwnAccess.{OwnAccess}
 use Rattle.hg_shards.specs.declared.routes.Placed.{Placed}
 use Rattle.hg_shards.specs.declared.routes.Routes.{Routes}
 use Rattle.hg_shards.specs.Pushing.{IsRouted, Pushes, lists_of, parts_in}
-use Rattle.hg_shards.specs.Routing.{HasRoomAt, common_from, is_own, is_routed, items_of, own_access, own_from, own_lists, touches_part, with_own}
+use Rattle.hg_shards.specs.Routing.{HasRoomAt, common_from, is_own, is_routed, items_of, own_access, own_from, own_lists, rooms_of, touches_part, with_own}
 use Rattle.hg_shards.specs.Sharding.{page_part}
 
 -- ---- lists of numbers
@@ -235,12 +235,20 @@ apart_in_set (x ∷ xs) zero (suc i) v differ = refl
 apart_in_set (x ∷ xs) (suc k) zero v differ = refl
 apart_in_set (x ∷ xs) (suc k) (suc i) v differ = apart_in_set xs k i v (λ e. differ (ap suc e))
 
+rooms_same : {Z : Type 0} (xs : List (Vec OwnAccess Z)) (k : ℕ) (d v : Vec OwnAccess Z) → vec_capacity v ≡ vec_capacity (get_or xs k d) → rooms_of (set xs k v) ≡ rooms_of xs
+rooms_same [] k d v same = refl
+rooms_same (x ∷ xs) zero d v same = ap (λ (n : ℕ). n ∷ rooms_of xs) same
+rooms_same (x ∷ xs) (suc k) d v same = ap (λ (ns : List ℕ). vec_capacity x ∷ ns) (rooms_same xs k d v same)
+
 module _ {Z : Type 0} (xs : List (Vec OwnAccess Z)) (k : ℕ) (d : Vec OwnAccess Z) (is : d ≡ get_or xs k d) where
   pub puts_one : (v : Vec OwnAccess Z) (item : OwnAccess) → k < length xs → v.items ≡ d.items ++ item ∷ [] → items_of (set xs k v) ≡ with_own (items_of xs) k item
   puts_one v item lt more =
       map-set (λ list. list.items) xs k v
       ∙ ap (λ (new : List OwnAccess). set (items_of xs) k new)
       (more ∙ ap (λ (old : List OwnAccess). old ++ item ∷ []) (ap (λ list. list.items) is ∙ sym (get_or-map (λ list. list.items) xs k d [] lt)))
+
+  pub keeps_rooms : (v : Vec OwnAccess Z) → vec_capacity v ≡ vec_capacity d → rooms_of (set xs k v) ≡ rooms_of xs
+  keeps_rooms v same = rooms_same xs k d v (same ∙ ap (λ (x : Vec OwnAccess Z). vec_capacity x) is)
 
   pub clears_one : (v : Vec OwnAccess Z) → v.items ≡ [] → items_of (set xs k v) ≡ set (items_of xs) k []
   clears_one v none = map-set (λ list. list.items) xs k v ∙ ap (λ (new : List OwnAccess). set (items_of xs) k new) none

@@ -23,8 +23,9 @@ use Rattle.hg_shards.specs.Following.{SeesUpto, TakesSeen, named}
 use Rattle.hg_shards.specs.Logging.{Log}
 use Rattle.hg_shards.specs.Routing.{common_from, is_own, is_routed, is_seen, own_access, own_from, touches_part}
 use Rattle.hg_shards.specs.Seeing.{BeginsBehind, NoneBefore, OffersNext, TakesLists, at_place, event_of}
-use Rattle.hg_shards.specs.Sharding.{AnswersShard, IsPassed, IsReady, PassesOthers, PassesOver, WantsOwnRoom, own_words, page_part, words_of}
+use Rattle.hg_shards.specs.Sharding.{AnswersShard, GrowsTo, IsPassed, IsReady, PassesOthers, PassesOver, WantsOwnRoom, own_words, page_part, words_of}
 use Rattle.hg_cells.specs.contracts.paged.PagedWordsWords.TheImpl as paged
+use Rattle.hg_shards.proofs.Growing.{grows_on}
 use Rattle.hg_shards.proofs.Batches.{accepted_by}
 use Rattle.hg_shards.proofs.Following.{IsUnseen, sees_none, sees_one, sees_passed}
 use Rattle.hg_shards.proofs.Passing.{on_small}
@@ -434,6 +435,11 @@ module _ (old : Shard) (source first : ℕ) (own : List OwnAccess) (common : Lis
       × IsReady s
       × ((events : List Event) → own ≡ own_from old.count old.part 0 events → common ≡ common_from 0 events → count ≡ length events → first + length events ≤ 2 ^ 64
       → IsUnderWay old source first events next mine all s)
+      × GrowsTo old s
+
+  -- it grew by what was passed over, and by the event that was offered
+  grew : (s new : Shard) (gap : ℕ) (n : Named) (cause : Option Cause) → GrowsTo old s → OffersNext s source gap n cause new → GrowsTo old new
+  grew s new gap n cause g o = grows_on old o.between new (grows_on old s o.between g o.over.moves.grows) o.answers.moves.grows
 
   module _ (next : ℕ) (mine : List OwnAccess) (all : List Placed) (s : Shard) (h : Holds next mine all s) (gap next' : ℕ) (cause : Option Cause) (new : Shard) where
     module _ (o : OwnAccess) (rest : List OwnAccess) (is : mine ≡ o ∷ rest) (none : NoneBefore o.place all) (is_gap : gap ≡ o.place - next)
@@ -452,6 +458,7 @@ module _ (old : Shard) (source first : ℕ) (own : List OwnAccess) (common : Lis
             subst (λ (n : ℕ). IsUnderWay old source first events n mine' all new) (let z : o.place + 1 ≡ next' = omega (arith, next_is, lt, m, few) in z)
             (subst (λ (xs : List OwnAccess). IsUnderWay old source first events (o.place + 1) xs all new) (sym (mine_is ∙ rest_of o rest mine is))
             (went_on old source first events f next mine all s w o.place (event_of o) rest all c new cause given_own go)),
+        grew s new gap _ cause h.3 given,
       )
 
       pub stop_own : (why : Cause) → cause ≡ Some why → TakesLists old source first own common count (Some (record { place = o.place; cause = why })) new
@@ -459,6 +466,7 @@ module _ (old : Shard) (source first : ℕ) (own : List OwnAccess) (common : Lis
           record {
             rest = rest_on old s new source gap _ cause h.0 given;
             ready = given.answers.ready;
+            grows = grew s new gap _ cause h.3 given;
             takes = λ events a b m f.
                 let w = h.2 events a b m f in
                 let c = next_own old.count old.part next (drop next events) o rest all (sym w.mine_is ∙ is) w.all_is none in
@@ -481,6 +489,7 @@ module _ (old : Shard) (source first : ℕ) (own : List OwnAccess) (common : Lis
             subst (λ (n : ℕ). IsUnderWay old source first events n mine all' new) (let z : o.place + 1 ≡ next' = omega (arith, next_is, lt, m, few) in z)
             (subst (λ (xs : List Placed). IsUnderWay old source first events (o.place + 1) mine xs new) (sym (all_is ∙ rest_of o rest all is))
             (went_on old source first events f next mine all s w o.place o.event mine rest c new cause given_common go)),
+        grew s new gap _ cause h.3 given,
       )
 
       pub stop_common : (why : Cause) → cause ≡ Some why → TakesLists old source first own common count (Some (record { place = o.place; cause = why })) new
@@ -488,6 +497,7 @@ module _ (old : Shard) (source first : ℕ) (own : List OwnAccess) (common : Lis
           record {
             rest = rest_on old s new source gap _ cause h.0 given;
             ready = given.answers.ready;
+            grows = grew s new gap _ cause h.3 given;
             takes = λ events a b m f.
                 let w = h.2 events a b m f in
                 let c = next_common old.count old.part next (drop next events) o mine rest w.mine_is (sym w.all_is ∙ is) behind in
@@ -499,6 +509,7 @@ module _ (old : Shard) (source first : ℕ) (own : List OwnAccess) (common : Lis
         record {
           rest = over.rest ∙ ap (λ (x : Shard). record x { detector = new.detector }) h.0 ∙ ap (λ (l : Log). record old { detector = new.detector; log = l }) (sym (ap (λ (x : Shard). x.log) over.rest));
           ready = over.ready;
+          grows = grows_on old s new h.3 over.moves.grows;
           takes = λ events a b m f.
               ended old source first events f next mine all s (h.2 events a b m f) new no_own no_common
               (subst (λ (n : ℕ). PassesOver s source n new) (is_gap ∙ ap (λ n. n - next) m) over);

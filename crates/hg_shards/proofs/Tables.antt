@@ -6,10 +6,22 @@ use Rattle.std.specs.Cmp.Lexicographic.{pointwise}
 use Rattle.std.proofs.Common.{nat_eq}
 use Rattle.hg_sets.specs.Interning.{Table, Interns, Adds, StandsAt, first_table, with_set}
 use Rattle.hg_sets.specs.declared.fault.SetFault.{SetFault}
-use Rattle.hg_sets.specs.declared.fault.SetFault.TheVariants.{Full}
+use Rattle.hg_sets.specs.declared.fault.SetFault.TheVariants.{Full, OutOfMemory}
 use Rattle.hg_detect.specs.Making.{Asks}
 use Rattle.hg_shards.specs.Asking.{AnswersBySets, HasSets, has_set, size_with}
 use Rattle.hg_shards.proofs.Counting.{contains_set, set_at_place, absent_set, alike_member, distinct_push, distinct_one, counted, at_least, has_both}
+
+-- a table that takes no set stays
+pub refused_stays : (set : List ℕ) (old new : Table) (fault : SetFault) → Interns old set (Err fault) new → new ≡ old
+refused_stays set old new fault h =
+    ⊎_elim
+    (λ (there : (id : ℕ) × StandsAt old.sets set id × (Err fault ≡ Ok id) × (new ≡ old)). there.3)
+    (λ (absent : (Contains old.sets set → ⊥) × Adds old set (Err fault) new). by fault absent.1)
+    h
+  where
+    by : (f : SetFault) → Adds old set (Err f) new → new ≡ old
+    by Full a = a.1
+    by OutOfMemory a = a.1
 
 pub first_has : (limit : ℕ) → 0 < limit → HasSets limit [] (first_table limit)
 first_has limit some = record { limit_is = refl; within = omega arith; distinct = distinct_one []; members = λ q. refl }

@@ -15,6 +15,7 @@ use Rattle.hg_shards.specs.Asking.{HasSets, has_set, size_with}
 use Rattle.hg_shards.specs.Filling.{IsFirstHead, IsNextMade, NoneBefore, PutsSet, earlier_of, heads_of, is_found_by}
 use Rattle.hg_shards.specs.Logging.{NeverFalls, made_by}
 use Rattle.hg_shards.specs.Sharding.{IsLogOf, made_in}
+use Rattle.hg_shards.specs.Together.{AreCutAt, IsTaking, taken_sets}
 use Rattle.hg_shards.proofs.Counting.{at_least, has_both, unique_distinct, unique_members}
 use Rattle.hg_shards.proofs.Logging.{all_weaker}
 use Rattle.hg_shards.proofs.Tables.{size_is}
@@ -122,24 +123,6 @@ none_is_next count heads taken None not h = h
 none_is_next count heads taken (Some next) not h = absurd (not next refl)
 
 -- ---- what was taken
-
--- the sets that were taken, so many of each shard
-abbrev pub taken_sets : List Shard → List ℕ → List (List ℕ)
-taken_sets [] taken = []
-taken_sets (s ∷ shards) [] = []
-taken_sets (s ∷ shards) (n ∷ taken) = take n s.detector.sets.sets ++ taken_sets shards taken
-
--- What was taken of a shard was made up to this event, and the rest at it or behind it.
-pub record IsCutAt (event : ℕ) (s : Shard) (n : ℕ) : Type 0 where
-  pub within : n ≤ length s.log.events
-  pub before : AllByRecursion (λ e. e ≤ event) (take n s.log.events)
-  pub behind : AllByRecursion (λ e. event ≤ e) (drop n s.log.events)
-
-abbrev pub AreCutAt : ℕ → List Shard → List ℕ → Type 0
-AreCutAt event [] [] = Unit {0}
-AreCutAt event [] (n ∷ taken) = ⊥
-AreCutAt event (s ∷ shards) [] = ⊥
-AreCutAt event (s ∷ shards) (n ∷ taken) = IsCutAt event s n × AreCutAt event shards taken
 
 -- how many sets are left
 abbrev pub left_of : List Shard → List ℕ → ℕ
@@ -357,6 +340,26 @@ all_taken k [] (n ∷ taken) same none = absurd (omega arith)
 all_taken k (s ∷ shards) [] same none = absurd (omega arith)
 all_taken k (s ∷ shards) (n ∷ taken) same none = (nothing_left (λ e. k < e) n s.log.events (none 0), all_taken k shards taken (omega arith) (λ j. none (suc j)))
 
+-- ---- what comes next
+
+module _ (shards : List Shard) (taken : List ℕ) (next : Next) (first : IsNextMade shards taken (Some next)) (s0 : Shard) where
+  pub fewer_left : left_of shards (set taken next.part (next.set + 1)) < left_of shards taken
+  fewer_left = subst (λ (n : ℕ). left_of shards (set taken next.part (n + 1)) < left_of shards taken) (sym first.1) (left_one shards taken next.part 0 next.event first.2)
+
+  pub within_log : next.set < length (get_or shards next.part s0).log.events
+  within_log = at shards taken next.part next.set next.event first.1 first.2
+    where
+      at : (shards : List Shard) (taken : List ℕ) (k n event : ℕ) → n ≡ get_or taken k 0 → get_or (heads_of shards taken) k None ≡ Some event → n < length (get_or shards k s0).log.events
+      at [] taken k n event is head = absurd (none_is_none event head)
+      at (s ∷ shards) [] k n event is head = absurd (none_is_none event head)
+      at (s ∷ shards) (m ∷ taken) zero n event is head = let lt = slice_get_within s.log.events m event head in omega (arith, lt, is)
+      at (s ∷ shards) (m ∷ taken) (suc k) n event is head = at shards taken k n event is head
+
+  pub within_table : s0 ≡ get_or shards next.part s0 → All HasLog shards → next.set < length s0.detector.sets.sets
+  within_table is_one all =
+      subst (λ (s : Shard). next.set < length s.detector.sets.sets) (sym is_one)
+      (let lt = within_log in let le = (all next.part s0 first.0).within in omega (arith, lt, le))
+
 -- ---- the answers
 
 pub size_within : (xs ys : List (List ℕ)) → ((q : List ℕ) → has_set xs q ≡ true → has_set ys q ≡ true) → size_with xs ≤ size_with ys
@@ -372,35 +375,32 @@ size_within xs ys h =
 abbrev pub FillsAt : ℕ → List Shard → Option ℕ → Type 0
 FillsAt limit shards found = (k : ℕ) → nat_lt limit (size_with (all_made k shards)) ≡ is_found_by k found
 
--- the table has the sets that were taken, and these were made before all others
-pub record IsTaking (limit : ℕ) (shards : List Shard) (taken : List ℕ) (t : Table) : Type 0 where
-  pub counts : length taken ≡ length shards
-  pub sets : HasSets limit (taken_sets shards taken) t
-  pub event : ℕ
-  pub cut : AreCutAt event shards taken
-
 pub same_sets : (limit : ℕ) (xs ys : List (List ℕ)) (t : Table) → ((q : List ℕ) → has_set ys q ≡ has_set xs q) → HasSets limit xs t → HasSets limit ys t
 same_sets limit xs ys t same h =
     record { limit_is = h.limit_is; within = h.within; distinct = h.distinct; members = λ q. h.members q ∙ ap (λ b. pointwise nat_eq q [] || b) (sym (same q)) }
 
 put_full : (b : Bool) (old new : Table) (one : List ℕ) → b ≡ false → PutsSet old one b new → (limit : ℕ) (sets : List (List ℕ)) → HasSets limit sets old → limit < size_with (sets ++ one ∷ [])
 put_full true old new one is h = absurd (false≢true (sym is))
-put_full false old new one is h = h
+put_full false old new one is h = h.1
+
+put_stays : (b : Bool) (old new : Table) (one : List ℕ) → b ≡ false → PutsSet old one b new → new ≡ old
+put_stays true old new one is h = absurd (false≢true (sym is))
+put_stays false old new one is h = h.0
 
 put_taken : (b : Bool) (old new : Table) (one : List ℕ) → b ≡ true → PutsSet old one b new → (limit : ℕ) (sets : List (List ℕ)) → HasSets limit sets old → HasSets limit (sets ++ one ∷ []) new
 put_taken true old new one is h = h
 put_taken false old new one is h = absurd (false≢true is)
 
-module _ (limit : ℕ) (shards : List Shard) (logs : AllByRecursion HasLog shards) where
-  pub begins_taking : (t : Table) → HasSets limit [] t → IsTaking limit shards (replicate (length shards) 0) t
-  begins_taking t h =
-      record {
-        counts = length-replicate (length shards) 0;
-        sets = subst (λ (sets : List (List ℕ)). HasSets limit sets t) (sym (none_taken shards)) h;
-        event = 0;
-        cut = cut_first shards;
-      }
+pub begins_taking : (limit : ℕ) (shards : List Shard) (t : Table) → HasSets limit [] t → IsTaking limit shards (replicate (length shards) 0) t
+begins_taking limit shards t h =
+    record {
+      counts = length-replicate (length shards) 0;
+      sets = subst (λ (sets : List (List ℕ)). HasSets limit sets t) (sym (none_taken shards)) h;
+      event = 0;
+      cut = cut_first shards;
+    }
 
+module _ (limit : ℕ) (shards : List Shard) (logs : AllByRecursion HasLog shards) where
   module _ (taken : List ℕ) (t : Table) (h : IsTaking limit shards taken t) where
     pub none_left : ((j : ℕ) → get_or (heads_of shards taken) j None ≡ None) → FillsAt limit shards None
     none_left none k =
@@ -436,9 +436,6 @@ module _ (limit : ℕ) (shards : List Shard) (logs : AllByRecursion HasLog shard
             cut = cut_after;
           }
 
-      pub fewer_left : left_of shards after < left_of shards taken
-      fewer_left = subst (λ (n : ℕ). left_of shards (set taken next.part (n + 1)) < left_of shards taken) (sym first.1) (left_one shards taken next.part 0 next.event first.2)
-
       pub fills : limit < size_with (taken_sets shards taken ++ one ∷ []) → FillsAt limit shards (Some next.event)
       fills full k =
           elim (nat_le next.event k) as (λ b. nat_le next.event k ≡ b → nat_lt limit (size_with (all_made k shards)) ≡ b) [
@@ -453,15 +450,6 @@ module _ (limit : ℕ) (shards : List Shard) (logs : AllByRecursion HasLog shard
                 let within = h.sets.within in omega (arith, few, size, within))
           ] refl
 
-      pub within_log : next.set < length (get_or shards next.part s0).log.events
-      within_log = at shards taken next.part next.set next.event first.1 first.2
-        where
-          at : (shards : List Shard) (taken : List ℕ) (k n event : ℕ) → n ≡ get_or taken k 0 → get_or (heads_of shards taken) k None ≡ Some event → n < length (get_or shards k s0).log.events
-          at [] taken k n event is head = absurd (none_is_none event head)
-          at (s ∷ shards) [] k n event is head = absurd (none_is_none event head)
-          at (s ∷ shards) (m ∷ taken) zero n event is head = let lt = slice_get_within s.log.events m event head in omega (arith, lt, is)
-          at (s ∷ shards) (m ∷ taken) (suc k) n event is head = at shards taken k n event is head
-
       module _ (is_one : s0 ≡ get_or shards next.part s0) where
         pub full_put : (b : Bool) (new : Table) → b ≡ false → PutsSet t (set_at s0.detector.sets.sets next.set) b new → FillsAt limit shards (Some next.event)
         full_put b new is puts =
@@ -469,13 +457,11 @@ module _ (limit : ℕ) (shards : List Shard) (logs : AllByRecursion HasLog shard
             (subst (λ (s : Shard). limit < size_with (taken_sets shards taken ++ set_at s.detector.sets.sets next.set ∷ [])) is_one
             (put_full b t new (set_at s0.detector.sets.sets next.set) is puts limit (taken_sets shards taken) h.sets))
 
+        pub full_stays : (b : Bool) (new : Table) → b ≡ false → PutsSet t (set_at s0.detector.sets.sets next.set) b new → IsTaking limit shards taken new
+        full_stays b new is puts = subst (λ (x : Table). IsTaking limit shards taken x) (sym (put_stays b t new (set_at s0.detector.sets.sets next.set) is puts)) h
+
         pub taken_put : (b : Bool) (new : Table) → b ≡ true → PutsSet t (set_at s0.detector.sets.sets next.set) b new → IsTaking limit shards after new
         taken_put b new is puts =
             takes new
             (subst (λ (s : Shard). HasSets limit (taken_sets shards taken ++ set_at s.detector.sets.sets next.set ∷ []) new) is_one
             (put_taken b t new (set_at s0.detector.sets.sets next.set) is puts limit (taken_sets shards taken) h.sets))
-
-        pub within_table : All HasLog shards → next.set < length s0.detector.sets.sets
-        within_table all =
-            subst (λ (s : Shard). next.set < length s.detector.sets.sets) (sym is_one)
-            (let lt = within_log in let le = (all next.part s0 first.0).within in omega (arith, lt, le))

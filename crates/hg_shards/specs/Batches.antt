@@ -9,7 +9,7 @@ use Rattle.hg_shards.specs.declared.shard.Shard.{Shard}
 use Rattle.hg_shards.specs.declared.shards.Cause.{Cause}
 use Rattle.hg_shards.specs.declared.shards.Cause.TheVariants as causes
 use Rattle.hg_shards.specs.declared.shards.Stop.{Stop}
-use Rattle.hg_shards.specs.Sharding.{AnswersShard, BeginsFor, Follows, HasOwnSets, IsReady, PassesOthers, WantsOwnRoom}
+use Rattle.hg_shards.specs.Sharding.{AnswersShard, BeginsFor, Follows, GrowsTo, HasOwnSets, IsReady, PassesOthers, WantsOwnRoom}
 
 -- why an event with this answer was not accepted
 abbrev pub cause_of : Result Answer Refusal → Option Cause
@@ -33,10 +33,11 @@ abbrev pub before_stop : List Named → Option Stop → List Named
 before_stop events None = events
 before_stop events (Some stop) = take stop.place events
 
--- A shard that followed a trace follows it with these events too, and its table and its log have their sets.
+-- A shard that followed a trace follows it with these events too, and its table and its log have their sets, at their ends.
 pub record TakesAll (old : Shard) (events : List Named) (new : Shard) : Type 0 where
   pub rest : new ≡ record old { detector = new.detector; log = new.log }
   pub ready : IsReady new
+  pub grows : GrowsTo old new
   pub follows : (trace : List Named) → Follows trace old → Follows (reverse events ++ trace) new
   pub sets : (trace : List Named) → Follows trace old → (limit : ℕ) → HasOwnSets limit trace old → HasOwnSets limit (reverse events ++ trace) new
 

@@ -67,7 +67,7 @@ IsFirstHead count heads taken (Some next) =
 abbrev pub IsNextMade : List Shard → List ℕ → Option Next → Type 0
 IsNextMade shards taken next = IsFirstHead (length shards) (heads_of shards taken) taken next
 
--- A table that was asked for some sets is asked for one more: it has it then, or it is full.
+-- A table that was asked for some sets is asked for one more: it has it then, or it is full and stays.
 abbrev pub PutsSet : Table → List ℕ → Bool → Table → Type 0
 PutsSet old set true new = (limit : ℕ) (sets : List (List ℕ)) → HasSets limit sets old → HasSets limit (sets ++ set ∷ []) new
-PutsSet old set false new = (limit : ℕ) (sets : List (List ℕ)) → HasSets limit sets old → limit < size_with (sets ++ set ∷ [])
+PutsSet old set false new = (new ≡ old) × ((limit : ℕ) (sets : List (List ℕ)) → HasSets limit sets old → limit < size_with (sets ++ set ∷ []))

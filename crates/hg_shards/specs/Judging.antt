@@ -1,5 +1,5 @@
 -- All parts of a trace as one detector, which judges batches of events.
-use Rattle.std.specs.Prelude.{◌≡◌, ◌⊎◌, ℕ, ◌+◌, ◌^◌, ◌<◌, ◌≤◌, false, List, [], ◌∷◌, ◌++◌, length, take, slice_get, Option, Some, None}
+use Rattle.std.specs.Prelude.{◌≡◌, ◌⊎◌, ℕ, ◌+◌, ◌^◌, ◌<◌, ◌≤◌, Bool, false, nat_lt, List, [], ◌∷◌, ◌++◌, length, take, slice_get, Option, Some, None}
 use Rattle.hg_model.specs.declared.event.Named.{Named}
 use Rattle.hg_model.specs.declared.verdict.Refusal.TheVariants.{FullSets}
 use Rattle.hg_model.specs.declared.verdict.Verdict.TheVariants as verdicts
@@ -25,6 +25,7 @@ use Rattle.hg_shards.specs.Pushing.{IsRouted}
 use Rattle.hg_shards.specs.Stopping.{accepted_of, is_for_memory, one_stop}
 use Rattle.hg_shards.specs.Reading.{HasRead, ReadsNext}
 use Rattle.hg_shards.specs.Sharding.{Follows, GoesOn, HasOwnSets}
+use Rattle.hg_shards.specs.Together.{HasTaken}
 
 -- ---- one detector with one table of sets
 
@@ -72,13 +73,14 @@ pub record HasJudged (trace : List Named) (j : Judge) : Type 0 where
   pub parts : AreAllParts (GoesOn trace) j.shards.shards.items
 
 -- The judge stands at this content, as one detector with this table would: the content is that of a trace which each shard follows
--- to its end, and the table has the sets that this trace asks for.
+-- to its end, and the table has the sets that this trace asks for. The sets that the judge took together are those that were made first.
 pub record IsAt (c : Content) (table : Table) (j : Judge) : Type 0 where
   pub trace : List Named
   pub content : c ≡ summary trace
   pub judged : HasJudged trace j
   pub parts : AreAllParts (KnowsTrace j.limit trace) j.shards.shards.items
   pub sets : HasSets j.limit (asked anywhere (events_of trace)) table
+  pub taken : HasTaken j.limit j.shards.shards.items j.taking
 
 -- The judge has all reports of this content. Some of its shards may have gone further: then it can't go on.
 pub record HasReports (c : Content) (j : Judge) : Type 0 where
@@ -117,7 +119,8 @@ Judges old events stop new = (c : Content) (table : Table) → IsAt c table old 
 -- The stop of a batch of so many events, by the first stop of the shards that were offered it.
 pub record Concludes (old : Judge) (count : ℕ) (first : Option Stop) (stop : Option Stop) (new : Judge) : Type 0 where
   pub found : Option ℕ
-  pub full : IsFirstFull old.limit old.shards.shards.items found
+  pub full : HasTaken old.limit old.shards.shards.items old.taking → IsFirstFull old.limit old.shards.shards.items found
+  pub taken : HasTaken old.limit old.shards.shards.items old.taking → HasTaken old.limit old.shards.shards.items new.taking
   pub stop_is : (events : List Named) → length events ≡ count → stop ≡ one_stop old.events events first found
   pub counts : (events : List Named) → length events ≡ count → old.events + accepted_of events stop < 2 ^ 64 → new.events ≡ old.events + accepted_of events stop
   pub no_memory : is_for_memory stop ≡ false
@@ -144,3 +147,7 @@ abbrev pub NextReport : Judge → Cursor → Option Report → Cursor → Type 0
 NextReport j old found new =
     (c : Content) (front rest : List Report) → HasReports c j → HasRead (parts_of j) front old → c.reports ≡ front ++ rest
     → ReadsNext (parts_of j) front rest found new
+
+-- Shards that follow a trace of so many events, or go further, tell whether the trace has reports.
+abbrev pub TellsRaces : List Shard → ℕ → Bool → Type 0
+TellsRaces shards last answer = (trace : List Named) → last ≡ length trace → AreAllParts (GoesOn trace) shards → answer ≡ nat_lt 0 (summary trace).total

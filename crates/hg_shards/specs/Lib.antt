@@ -6,6 +6,7 @@ pub mod Logging
 pub mod Laws
 pub mod Sharding
 pub mod Filling
+pub mod Together
 pub mod Batches
 pub mod Routing
 pub mod Pushing

@@ -1,6 +1,6 @@
 -- The reports that shards keep, read in the order of the whole trace.
 use Rattle.std.specs.Prelude.{◌≡◌, ℕ, ◌<◌, nat_le, List, [], ◌∷◌, ◌++◌, length, get_or, map, slice_get, Option, Some, None, if◌then◌else◌}
-use Rattle.std.specs.List.{range_with_len}
+use Rattle.std.specs.List.{range_with_len, sum_by}
 use Rattle.hg_model.specs.declared.report.Report.{Report}
 use Rattle.hg_detect.specs.Shown.{reports_of}
 use Rattle.hg_shards.specs.declared.cursor.Cursor.{Cursor}
@@ -40,3 +40,7 @@ IsNextPart last shards given (Some k) =
 abbrev pub ReadsNext : ℕ → List Report → List Report → Option Report → Cursor → Type 0
 ReadsNext parts front [] found new = (found ≡ None) × HasRead parts front new
 ReadsNext parts front (r ∷ rest) found new = (found ≡ Some r) × HasRead parts (front ++ r ∷ []) new
+
+-- how many reports several shards have counted
+abbrev pub total_of : List Shard → ℕ
+total_of shards = sum_by (λ s. s.detector.total) shards

@@ -58,6 +58,10 @@ items_of lists = map (λ list. list.items) lists
 abbrev pub HasRoomAt : {Z : Type 0} → List (Vec OwnAccess Z) → ℕ → Type 0
 HasRoomAt {Z} lists k = (list : Vec OwnAccess Z) → slice_get lists k ≡ Some list → length list.items < vec_capacity list
 
+-- how many there is room for in each of several vectors
+abbrev pub rooms_of : {Z : Type 0} → List (Vec OwnAccess Z) → List ℕ
+rooms_of lists = map (λ list. vec_capacity list) lists
+
 -- the lists, with one access more behind those of a part
 abbrev pub with_own : List (List OwnAccess) → ℕ → OwnAccess → List (List OwnAccess)
 with_own lists part item = set lists part (get_or lists part [] ++ item ∷ [])

@@ -17,7 +17,7 @@ use Rattle.hg_model.specs.Accessing.{access_event}
 use Rattle.hg_shards.specs.Batches.{cause_of}
 use Rattle.hg_shards.specs.Following.{TakesSeen, named}
 use Rattle.hg_shards.specs.Routing.{common_from, is_seen, own_from}
-use Rattle.hg_shards.specs.Sharding.{AnswersShard, IsReady, PassesOthers, PassesOver, WantsOwnRoom}
+use Rattle.hg_shards.specs.Sharding.{AnswersShard, GrowsTo, IsReady, PassesOthers, PassesOver, WantsOwnRoom}
 
 -- The first event of the list stands behind this place.
 abbrev pub BeginsBehind : ℕ → List OwnAccess → Type 0
@@ -58,5 +58,6 @@ pub record OffersNext (old : Shard) (source gap : ℕ) (n : Named) (cause : Opti
 pub record TakesLists (old : Shard) (source first : ℕ) (own : List OwnAccess) (common : List Placed) (count : ℕ) (stop : Option Stop) (new : Shard) : Type 0 where
   pub rest : new ≡ record old { detector = new.detector; log = new.log }
   pub ready : IsReady new
+  pub grows : GrowsTo old new
   pub takes : (events : List Event) → own ≡ own_from old.count old.part 0 events → common ≡ common_from 0 events → count ≡ length events → first + length events ≤ 2 ^ 64
       → TakesSeen old (named source first events) (is_seen old.count old.part) stop new

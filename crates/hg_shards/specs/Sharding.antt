@@ -136,6 +136,15 @@ LogGoes old answer new =
 abbrev pub verdict_after : List Named → Named → Verdict
 verdict_after trace n = verdict (standing_of (summary trace)) n
 
+-- The table and the log of a shard grew at their ends. What the log has more are events behind those that were counted before.
+pub record GrowsTo (old new : Shard) : Type 0 where
+  pub events : old.detector.parts.events ≤ new.detector.parts.events
+  pub more_sets : List (List ℕ)
+  pub sets : new.detector.sets.sets ≡ old.detector.sets.sets ++ more_sets
+  pub more_events : List ℕ
+  pub log : new.log.events ≡ old.log.events ++ more_events
+  pub later : AllByRecursion (λ event. old.detector.parts.events < event) more_events
+
 -- What a shard had of the events that it had counted stays, whatever comes. Where it kept the first of some reports, it keeps the first of
 -- these and of reports of later events, and its log says of the events that it had counted what it said.
 pub record MovesOn (old new : Shard) : Type 0 where
@@ -144,6 +153,7 @@ pub record MovesOn (old new : Shard) : Type 0 where
   pub reports : (all : List Report) → reports_of old.detector ≡ take MOST_REPORTS all → reports_of new.detector ≡ take MOST_REPORTS (all ++ late)
   pub later : AllByRecursion (λ r. old.detector.parts.events < r.event) late
   pub made : (k : ℕ) → k ≤ old.detector.parts.events → made_in k new ≡ made_in k old
+  pub grows : GrowsTo old new
 
 -- The shard has what a trace makes of its words: the first reports of these are kept, and its log says of each event of the trace which
 -- sets its words had asked for by then. It may have gone further: then it also has reports and sets of later events, and maybe of events

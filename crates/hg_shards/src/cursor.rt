@@ -3,7 +3,7 @@
 ghost use Rattle.std.specs.Prelude.{◌≡◌, [], length, slice_get, IfOk, IfErr};
 ghost use Rattle.hg_detect.specs.Shown.{reports_of};
 ghost use Rattle.hg_shards.specs.Reading.{HasRead, IsNextPart, place_upto};
-ghost use Rattle.hg_shards.specs.Judging.{ReadsFrom};
+ghost use Rattle.hg_shards.specs.Judging.{ReadsFrom, TellsRaces};
 
 use crate::merge::{Place, wins};
 use crate::shard::Shard;
@@ -44,6 +44,18 @@ fn place_at(shard: &Shard, index: usize, last: u64) -> Option<Place>
         event: report.event,
         word: report.word,
     })
+}
+
+/// Whether a shard keeps a report up to the last event.
+pub(crate) fn has_reports(shards: &[Shard], last: u64) -> bool
+    ensures { TellsRaces shards.now last result }
+{
+    for k in 0..shards.len() {
+        if place_at(&shards[k], 0, last).is_some() {
+            return true;
+        }
+    }
+    false
 }
 
 /// The shard whose report comes next up to the last event, where so many of each were read, or None where all were.

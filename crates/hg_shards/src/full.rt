@@ -1,8 +1,9 @@
 //! The event at which the parts of a trace have more sets together than one table has room for.
 
-ghost use Rattle.std.specs.Prelude.{◌≡◌, ◌<◌, ◌≤◌, ◌^◌, All, None, Ok, length, nat_le, IfOk};
+ghost use Rattle.std.specs.Prelude.{◌≡◌, ℕ, ◌<◌, ◌≤◌, ◌^◌, All, List, None, Ok, length, nat_le, IfOk};
 ghost use Rattle.hg_sets.specs.Interning.{set_at};
 ghost use Rattle.hg_shards.specs.Sharding.{IsLogOf};
+ghost use Rattle.hg_shards.specs.Together.{HasTaken, parts_taken};
 ghost use Rattle.hg_shards.specs.Filling.{IsFirstFull, IsNextMade, PutsSet, earlier_of, logged};
 
 use crate::shard::Shard;
@@ -81,6 +82,77 @@ fn put(table: &mut SetTable, part: &Shard, set: usize) -> Result<bool, AllocErro
     }
 }
 
+/// One table that takes the sets of all parts, those first that were made first.
+#[derive(Drop)]
+pub struct Taking {
+    table: SetTable,
+    /// How many sets of each part it took.
+    taken: Vec<usize>,
+}
+
+impl Taking {
+    ghost use Rattle.hg_shards.specs.Together.{IsTaking};
+
+    /// A table that took no set of so many parts.
+    fn new(alloc: Global, limit: u32, parts: usize) -> Result<Self, AllocError>
+        requires least { 1 ≤ limit }
+        requires greatest { limit ≤ MOST_SETS }
+        ensures none { IfOk result (λ t. (shards : List Shard) → length shards ≡ parts → IsTaking limit shards t.taken.items t.table) }
+        ensures counts { IfOk result (λ t. length t.taken.items ≡ parts) }
+    {
+        Ok(Taking {
+            table: SetTable::with_limit(alloc, limit)?,
+            taken: vec![in alloc; 0; parts]?,
+        })
+    }
+
+    /// Takes the sets of the parts that were not taken yet, up to one for which there is no room. The answer is the event that made it.
+    fn take_rest(&mut self, parts: &[Shard]) -> Result<Option<u64>, AllocError>
+        requires counts { length self.old.taken.items ≡ length parts.now }
+        requires logs { All (λ s. IsLogOf s.detector s.log) parts.now }
+        ensures first { IfOk result (λ found. (limit : ℕ) → IsTaking limit parts.now self.old.taken.items self.old.table → IsFirstFull limit parts.now found) }
+        ensures goes_on { IfOk result (λ found. (limit : ℕ) → IsTaking limit parts.now self.old.taken.items self.old.table → IsTaking limit parts.now self.new.taken.items self.new.table) }
+        ensures counts { length self.new.taken.items ≡ length self.old.taken.items }
+    {
+        while let Some(next) = next_made(parts, &self.taken) {
+            if !put(&mut self.table, &parts[next.part], next.set)? {
+                return Ok(Some(next.event));
+            }
+            self.taken[next.part] = next.set + 1;
+        }
+        Ok(None)
+    }
+}
+
+/// What `first_full` answers, by a table that goes on from one call to the next, while the parts get more sets. There is none before the
+/// parts have more than `limit` sets together.
+pub(crate) fn go_on(
+    alloc: Global,
+    limit: u32,
+    parts: &[Shard],
+    taking: &mut Option<Taking>,
+) -> Result<Option<u64>, AllocError>
+    requires least { 1 ≤ limit }
+    requires greatest { limit ≤ MOST_SETS }
+    requires logs { All (λ s. IsLogOf s.detector s.log) parts.now }
+    requires counts { parts_taken (length parts.now) taking.old ≡ length parts.now }
+    ensures first { IfOk result (λ found. HasTaken limit parts.now taking.old → IsFirstFull limit parts.now found) }
+    ensures goes_on { IfOk result (λ found. HasTaken limit parts.now taking.old → HasTaken limit parts.now taking.new) }
+    ensures few { taking.old ≡ None → logged parts.now ≤ limit → result ≡ Ok None }
+    ensures counts { parts_taken (length parts.now) taking.new ≡ length parts.now }
+{
+    if let Some(begun) = taking {
+        return begun.take_rest(parts);
+    }
+    if fit_together(limit, parts) {
+        return Ok(None);
+    }
+    let mut begun = Taking::new(alloc, limit, parts.len())?;
+    let found = begun.take_rest(parts)?;
+    *taking = Some(begun);
+    Ok(found)
+}
+
 /// The number of the event that one detector of the whole trace refuses, since its table has room for `limit` sets and is full, or
 /// None where it takes all events: by the logs of the shards of all parts. Where these have no more sets together, nothing is
 /// compared and no memory is taken.
@@ -91,16 +163,5 @@ pub fn first_full(alloc: Global, limit: u32, parts: &[Shard]) -> Result<Option<u
     ensures first { IfOk result (IsFirstFull limit parts.now) }
     ensures few { logged parts.now ≤ limit → result ≡ Ok None }
 {
-    if fit_together(limit, parts) {
-        return Ok(None);
-    }
-    let mut table = SetTable::with_limit(alloc, limit)?;
-    let mut taken = vec![in alloc; 0; parts.len()]?;
-    while let Some(next) = next_made(parts, &taken) {
-        if !put(&mut table, &parts[next.part], next.set)? {
-            return Ok(Some(next.event));
-        }
-        taken[next.part] = next.set + 1;
-    }
-    Ok(None)
+    go_on(alloc, limit, parts, &mut None)
 }

@@ -1,16 +1,19 @@
 //! All parts of a trace as one detector, which judges batches of its events side by side.
 
-ghost use Rattle.std.specs.Prelude.{◌≡◌, ◌≤◌, List, [], IfErr, IfOk, length};
+ghost use Rattle.std.specs.Prelude.{◌≡◌, ◌<◌, ◌≤◌, ◌^◌, true, nat_lt, List, [], Err, IfErr, IfOk, length};
 ghost use Rattle.hg_model.specs.declared.event.Named.{Named};
 ghost use Rattle.hg_model.specs.Contents.{Content};
 ghost use Rattle.hg_model.specs.Change.{empty_content};
 ghost use Rattle.hg_sets.specs.Interning.{Table, first_table};
 ghost use Rattle.hg_sets.specs.declared.table.TheConstants as sets;
-ghost use Rattle.hg_shards.specs.Reading.{HasRead};
+ghost use Rattle.hg_shards.specs.Reading.{HasRead, total_of};
 ghost use Rattle.hg_shards.specs.Stopping as spec;
+ghost use Rattle.hg_shards.specs.Together.{parts_taken};
 
-use crate::cursor::{Cursor, new_cursor, read_next};
+use crate::cursor::{Cursor, has_reports, new_cursor, read_next};
+use crate::full::{Taking, go_on};
 use crate::routes::Routes;
+use crate::shard::Shard;
 use crate::shards::{Cause, Shards, Stop};
 use hg_model::event::Named;
 use hg_model::report::Report;
@@ -60,6 +63,17 @@ fn is_for_memory(stop: Option<Stop>) -> bool
     }
 }
 
+/// How many reports the shards have together, or 2^64 - 1 where they have more.
+fn total_up_to_most(shards: &[Shard]) -> u64
+    ensures { total_of shards.now < 2 ^ 64 → result ≡ total_of shards.now }
+{
+    let mut total: u64 = 0;
+    for shard in shards {
+        total = total.saturating_add(shard.detector().total());
+    }
+    total
+}
+
 /// A detector of a whole trace, whose words are judged by parts. It is offered batches of events.
 #[derive(Drop)]
 pub struct Judge {
@@ -68,12 +82,17 @@ pub struct Judge {
     limit: u32,
     /// How many events of the trace were accepted.
     events: u64,
+    /// The sets of all parts in one table, where they were more than the limit together.
+    taking: Option<Taking>,
+    /// Whether memory was refused. Then nothing is told of the trace any more.
+    refused: bool,
     ghost least: { 1 ≤ limit },
     ghost greatest: { limit ≤ sets.MOST_SETS },
+    ghost counts: { parts_taken (length shards.shards.items) taking ≡ length shards.shards.items },
 }
 
 impl Judge {
-    ghost use Rattle.hg_shards.specs.Judging.{Concludes, IsAt, Judges, JudgesRoutes, NextReport, parts_of};
+    ghost use Rattle.hg_shards.specs.Judging.{Concludes, HasReports, IsAt, Judges, JudgesRoutes, NextReport, parts_of};
 
     /// The judge of an empty trace by `count` parts, with at most `most_sets` sets of threads and of locks: 1 to 262,144. The one
     /// refusal is `OutOfMemory`.
@@ -89,12 +108,15 @@ impl Judge {
             shards: Shards::new(alloc, count, most_sets)?,
             limit: most_sets,
             events: 0,
+            taking: None,
+            refused: false,
         })
     }
 
     /// Offers a batch of events to all parts side by side. The answer is where one detector with one table of sets stops, and why, or
     /// None where it accepts all events. Behind a stop the judge can't go on, but has all reports of the events before it. The one
-    /// refusal is `OutOfMemory`: then nothing is told of the trace. Where no thread can be started, the caller's does the work.
+    /// refusal is `OutOfMemory`: then nothing is told of the trace, and every later batch is refused so too. Where no thread can be
+    /// started, the caller's does the work.
     pub fn offer_all<T: Threads + Sync>(
         &mut self,
         alloc: Global,
@@ -104,7 +126,12 @@ impl Judge {
         ensures parts { parts_of self.new ≡ parts_of self.old }
         ensures judged { IfOk result (λ stop. Judges self.old events.now stop self.new) }
         ensures refusal { IfErr result (λ r. r ≡ Refusal.OutOfMemory) }
+        ensures spent { IfErr result (λ r. self.new.refused ≡ true) }
+        ensures stays { self.old.refused ≡ true → result ≡ Err Refusal.OutOfMemory }
     {
+        if self.refused {
+            return Err(Refusal::OutOfMemory);
+        }
         let first = self.shards.offer_all(rt, events);
         self.conclude(alloc, events.len(), first)
     }
@@ -123,7 +150,12 @@ impl Judge {
         ensures parts { parts_of self.new ≡ parts_of self.old }
         ensures judged { IfOk result (λ stop. JudgesRoutes self.old source first routes.now stop self.new) }
         ensures refusal { IfErr result (λ r. r ≡ Refusal.OutOfMemory) }
+        ensures spent { IfErr result (λ r. self.new.refused ≡ true) }
+        ensures stays { self.old.refused ≡ true → result ≡ Err Refusal.OutOfMemory }
     {
+        if self.refused {
+            return Err(Refusal::OutOfMemory);
+        }
         let found = self.shards.offer_routes(rt, source, first, routes);
         self.conclude(alloc, routes.count() as usize, found)
     }
@@ -135,15 +167,19 @@ impl Judge {
         count: usize,
         first: Option<Stop>,
     ) -> Result<Option<Stop>, Refusal>
-        ensures rest { self.new ≡ record self.old { events = self.new.events } }
+        ensures shards { self.new.shards ≡ self.old.shards }
+        ensures limit { self.new.limit ≡ self.old.limit }
         ensures stop { IfOk result (λ stop. Concludes self.old count first stop self.new) }
         ensures refusal { IfErr result (λ r. r ≡ Refusal.OutOfMemory) }
+        ensures spent { IfErr result (λ r. self.new.refused ≡ true) }
     {
-        let Ok(found) = self.shards.first_full(alloc, self.limit) else {
+        let Ok(found) = go_on(alloc, self.limit, self.shards.as_slice(), &mut self.taking) else {
+            self.refused = true;
             return Err(Refusal::OutOfMemory);
         };
         let stop = one_stop(self.events, count, first, found);
         if is_for_memory(stop) {
+            self.refused = true;
             return Err(Refusal::OutOfMemory);
         }
         self.events = self.events.saturating_add(accepted_of(count, stop) as u64);
@@ -166,6 +202,20 @@ impl Judge {
             return 0;
         }
         shards[0].detector().segments().len()
+    }
+
+    /// How many reports the trace has, kept or not, where the judge did not stop.
+    pub fn total(&self) -> u64
+        ensures { (c : Content) (table : Table) → IsAt c table self.now → result ≡ c.total }
+    {
+        total_up_to_most(self.shards.as_slice())
+    }
+
+    /// Whether the trace has a report, behind a stop too.
+    pub fn has_races(&self) -> bool
+        ensures { (c : Content) → HasReports c self.now → result ≡ nat_lt 0 c.total }
+    {
+        has_reports(self.shards.as_slice(), self.events)
     }
 
     /// A cursor that has read no report. It takes memory for a number of each part.

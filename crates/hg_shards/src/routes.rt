@@ -2,7 +2,7 @@
 
 ghost use Rattle.std.specs.Prelude.{◌≡◌, ℕ, ◌<◌, ◌≤◌, Bool, true, false, nat_lt, [], IfOk, length, vec_capacity};
 ghost use Rattle.hg_model.specs.Accessing.{access_event};
-ghost use Rattle.hg_shards.specs.Routing.{HasRoomAt, is_routed, items_of, with_own};
+ghost use Rattle.hg_shards.specs.Routing.{HasRoomAt, is_routed, items_of, rooms_of, with_own};
 
 use crate::shard::part_of_page;
 use hg_model::event::{Access, Event};
@@ -87,12 +87,13 @@ fn put(lists: &mut Vec<Vec<OwnAccess>>, part: usize, item: OwnAccess)
     requires room { HasRoomAt lists.old.items part }
     ensures puts { items_of lists.new.items ≡ with_own (items_of lists.old.items) part item }
     ensures others { (k : ℕ) → (k ≡ part → ⊥) → HasRoomAt lists.old.items k → HasRoomAt lists.new.items k }
+    ensures rooms { rooms_of lists.new.items ≡ rooms_of lists.old.items }
 {
     lists[part].push_reserved(item);
 }
 
 impl Routes {
-    ghost use Rattle.hg_shards.specs.Pushing.{IsRouted, Pushes, parts_in};
+    ghost use Rattle.hg_shards.specs.Pushing.{HasRoomFor, IsRouted, KeepsRoom, Pushes, parts_in};
 
     /// No events, for so many parts. There is room for `own` accesses in the list of each part, and for `common` events that all parts
     /// see.
@@ -100,6 +101,7 @@ impl Routes {
         requires { 1 ≤ parts }
         ensures none { IfOk result (IsRouted []) }
         ensures parts { IfOk result (λ r. parts_in r ≡ parts) }
+        ensures room { IfOk result (HasRoomFor own common) }
     {
         let mut lists = Vec::with_capacity(alloc, parts)?;
         for _ in 0..parts {
@@ -115,7 +117,8 @@ impl Routes {
     /// Puts an event that every part sees behind the others.
     fn push_common(&mut self, event: Event) -> bool
         requires { is_routed event ≡ false }
-        ensures { Pushes self.old event result self.new }
+        ensures pushes { Pushes self.old event result self.new }
+        ensures room { KeepsRoom self.old self.new }
     {
         if self.count == u32::MAX {
             return false;
@@ -134,7 +137,8 @@ impl Routes {
     /// Puts an access into the list of each part that has words of it, or where each part refuses it.
     #[inline(always)]
     fn push_access(&mut self, access: Access, write: bool) -> bool
-        ensures { Pushes self.old (access_event write access) result self.new }
+        ensures pushes { Pushes self.old (access_event write access) result self.new }
+        ensures room { KeepsRoom self.old self.new }
     {
         if !is_lawful(&access) {
             return self.push_common(event_of(access, write));
@@ -146,7 +150,8 @@ impl Routes {
     #[inline(always)]
     fn push_lawful(&mut self, access: Access, write: bool) -> bool
         requires { is_routed (access_event write access) ≡ true }
-        ensures { Pushes self.old (access_event write access) result self.new }
+        ensures pushes { Pushes self.old (access_event write access) result self.new }
+        ensures room { KeepsRoom self.old self.new }
     {
         if self.count == u32::MAX {
             return false;
@@ -182,7 +187,8 @@ impl Routes {
     /// Puts an event behind the others. `false` says that there is no room for it, and nothing changes. It takes no memory.
     #[inline(always)]
     pub fn push(&mut self, event: &Event) -> bool
-        ensures { Pushes self.old event.now result self.new }
+        ensures pushes { Pushes self.old event.now result self.new }
+        ensures room { KeepsRoom self.old self.new }
     {
         match event {
             Event::Read(access) => self.push_access(*access, false),
@@ -195,6 +201,7 @@ impl Routes {
     pub fn clear(&mut self)
         ensures none { IsRouted [] self.new }
         ensures parts { parts_in self.new ≡ parts_in self.old }
+        ensures room { KeepsRoom self.old self.new }
     {
         for k in 0..count_parts(&self.lists) {
             self.lists[k].clear();

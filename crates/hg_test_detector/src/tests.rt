@@ -8,5 +8,6 @@ mod own;
 mod plain;
 mod races;
 mod recency;
+mod routes;
 mod sets;
 mod shards;

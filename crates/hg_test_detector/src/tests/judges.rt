@@ -46,7 +46,7 @@ fn cause_of_one(whole: &mut MemoryDetector, named: &Named) -> Option<Cause>
 }
 
 /// Where one detector stops in a batch.
-fn stop_of_one(whole: &mut MemoryDetector, batch: &[Named]) -> Option<Stop>
+pub(crate) fn stop_of_one(whole: &mut MemoryDetector, batch: &[Named]) -> Option<Stop>
     requires { IsWhole whole.old }
     ensures { IsWhole whole.new }
 {
@@ -59,7 +59,7 @@ fn stop_of_one(whole: &mut MemoryDetector, batch: &[Named]) -> Option<Stop>
 }
 
 /// Reads the reports of a judge on: they have to be those that one detector keeps from an index on.
-fn compare_reports(
+pub(crate) fn compare_reports(
     rt: &impl Abort,
     alloc: Global,
     judge: &Judge,

@@ -1,4 +1,5 @@
 use Rattle.std.proofs.Common.{None, refl, ◌∙◌}
+use Rattle.hg_shards.proofs.Growing.{grows_not}
 use Rattle.hg_shards.proofs.Seeing.{begins_way, end_lists, seen_common, seen_own, stop_common, stop_own}
 use Rattle.hg_shards.proofs.lists.offer_lists.Goals as goal
 
@@ -7,6 +8,7 @@ loop-item-init c = (
   refl,
   c.requires,
   λ events own common many fits. begins_way c.args.shard.now c.args.source c.args.first events c.args.own.now c.args.common.now c.requires own common,
+  grows_not c.args.shard.now,
 )
 
 pub returns-in-Some : goal.returns-in-Some

@@ -3,8 +3,11 @@ use Rattle.std.proofs.Math.Seq.{take-length}
 use Rattle.std.proofs.lemmas.Option.{slice_get-get_or}
 use Rattle.hg_model.specs.declared.event.Named.{Named}
 use Rattle.hg_shards.specs.Batches.{TakesAll}
-use Rattle.hg_shards.proofs.Batches.{accepted_by, takes_more}
+use Rattle.hg_shards.proofs.Batches.{accepted_by, takes_more, takes_none}
 use Rattle.hg_shards.proofs.shards.offer_in_order.Goals as goal
+
+pub loop-place-init : goal.loop-place-init
+loop-place-init c = takes_none c.args.shard.now c.requires
 
 pub returns-in-Some : goal.returns-in-Some
 returns-in-Some c =

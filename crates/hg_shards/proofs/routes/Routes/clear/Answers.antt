@@ -2,7 +2,7 @@ use Rattle.std.proofs.Common.{◌≡◌, ◌≤◌, List, [], get_or, length, le
 use Rattle.std.proofs.lemmas.List.{length-map}
 use Rattle.hg_shards.specs.declared.routes.OwnAccess.{OwnAccess}
 use Rattle.hg_shards.specs.Routing.{items_of}
-use Rattle.hg_shards.proofs.Routing.{cleared_all, cleared_more, clears_one}
+use Rattle.hg_shards.proofs.Routing.{cleared_all, cleared_more, clears_one, keeps_rooms}
 use Rattle.hg_shards.proofs.routes.Routes.clear.Goals as goal
 
 pub loop-k-preserved : goal.loop-k-preserved
@@ -17,6 +17,7 @@ loop-k-preserved c =
       λ j below.
           subst (λ (xs : List (List OwnAccess)). get_or xs j [] ≡ []) (sym (clears_one lists k c.index_mut.result.now c.index_mut.ensures.value c.clear.new.self c.clear.ensures.items))
           (cleared_more (items_of lists) k (omega (arith, many, same, lt, end)) c.loop-k.invariant.1 j below),
+      keeps_rooms lists k c.index_mut.result.now c.index_mut.ensures.value c.clear.new.self c.clear.ensures.capacity ∙ c.loop-k.invariant.2,
     )
 
 pub returns-clause-none : goal.returns-clause-none

@@ -5,8 +5,8 @@ use Rattle.hg_shards.specs.Sharding.{page_part}
 use Rattle.hg_shards.proofs.Routing.{access_item, first_own, last_own, no_room_at, others_own, pushed_one, pushed_two, room_at, two_puts}
 use Rattle.hg_shards.proofs.routes.Routes.push_lawful.Goals as goal
 
-pub returns-then-first-last : goal.returns-then-first-last
-returns-then-first-last c =
+pub returns-then-first-last-clause-pushes : goal.returns-then-first-last-clause-pushes
+returns-then-first-last-clause-pushes c =
     let r = c.args.self.now in
     let a = c.args.access in
     let first = c.part_of_page-first in
@@ -18,8 +18,8 @@ returns-then-first-last c =
     (λ j differ. others_own (parts_in r) c.args.write a first.result last.result c.requires at_first at_last j differ (λ same. differ (same ∙ sym c.if-first-last.true)))
     _ (sym (access_item r.count c.args.write a)) c.put.ensures.puts refl refl
 
-pub returns-then-not-has_room-2 : goal.returns-then-not-has_room-2
-returns-then-not-has_room-2 c =
+pub returns-then-not-has_room-2-clause-pushes : goal.returns-then-not-has_room-2-clause-pushes
+returns-then-not-has_room-2-clause-pushes c =
     let r = c.args.self.now in
     let a = c.args.access in
     let first = c.part_of_page-first in
@@ -42,8 +42,8 @@ put-requires-3-clause-room c =
     c.put-2.ensures.others c.part_of_page-last.result (λ same. c.if-first-last.false (sym same))
     (room_at c.args.self.now.lists.items c.part_of_page-last.result c.index-2.result.now c.index-2.ensures (sym c.has_room-2.ensures ∙ c.if-not-has_room-2.false))
 
-pub returns : goal.returns
-returns c =
+pub returns-clause-pushes : goal.returns-clause-pushes
+returns-clause-pushes c =
     let r = c.args.self.now in
     let a = c.args.access in
     let first = c.part_of_page-first in
