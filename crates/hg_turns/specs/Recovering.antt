@@ -42,7 +42,8 @@ use Rattle.hg_turns.specs.declared.devices.Devices.{Devices}
 use Rattle.hg_turns.specs.Images.{FailuresBecome, FilesReadSame, failures_of, read_of}
 use Rattle.hg_turns.specs.Store.{IsFresh}
 
--- what the devices of a new store read: an open journal with the base 0 and no events, a spare one, no slot, and closed roots
+-- what the devices of a new store read: an open journal with the base 0 and no events, a spare one, no slot, and closed
+-- roots
 abbrev pub empty_image : Image
 empty_image = record { journal0 = first_bytes; journal1 = spare_bytes; slots = []; root0 = closed_gate ∷ []; root1 = closed_gate ∷ [] }
 

@@ -33,8 +33,8 @@ pub record Turns : Type 0 where
 
 -- The detector has all accepted events, and its map of words is a pool over the file of slots. `pending` are the accepted
 -- events that are not committed. `committed` is the detector with the committed events only, and `durable` is their count.
--- `frozen` is the detector at the last freeze. `counted` are the events that the newest open root counts. `is_broken`: a write, a cut or a sync of a device failed. `in_doubt`: it
--- failed in a commit.
+-- `frozen` is the detector at the last freeze. `turns` is what the journals keep, and `counted` how many events the newest open
+-- root counts. `is_broken`: a write, a cut or a sync of a device failed. `in_doubt`: it failed in a commit.
 pub record ShownStore (D : Type 0) : Type 0 where
   pub devices : Devices D
   pub detector : detect.ShownDetector (pool.ShownPool D)

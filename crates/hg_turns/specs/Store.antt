@@ -1,11 +1,13 @@
 -- The content that a store stands for.
-use Rattle.std.specs.Prelude.{◌≡◌, ◌+◌, ◌-◌, ℕ, Bool, List, [], length, false, IsTrue, Result, IfOk, Vec, take}
+use Rattle.std.specs.Prelude.{◌≡◌, ◌+◌, ◌-◌, ◌++◌, ℕ, Bool, List, [], length, true, false, IsTrue, Result, IfOk, Vec, take}
 use Rattle.hg_model.specs.declared.event.Named.{Named}
 use Rattle.hg_model.specs.declared.verdict.Refusal.{Refusal}
 use Rattle.hg_model.specs.Contents.{Content}
 use Rattle.hg_disk.specs.declared.disk.Disk as disk
 use Rattle.hg_disk.specs.Calls.{CallsAtMost}
 use Rattle.hg_checkpoint.specs.declared.phase.Phase.TheVariants.{Idle}
+use Rattle.hg_disk.specs.Moments.{Leaves}
+use Rattle.hg_journal.specs.File.{IsJournalFile, JournalFile, Open, Spare}
 use Rattle.hg_journals.specs.Journals.{HaveJournals, behind}
 use Rattle.hg_images.specs.Choices.{Stands}
 use Rattle.hg_images.specs.Images.{HasJournals, Image}
@@ -19,6 +21,11 @@ pub record IsIdle {D : Type 0} (s : ShownStore D) : Type 0 where
   pub phase : s.progress.phase ≡ Idle
   pub works : s.is_broken ≡ false
   pub certain : s.in_doubt ≡ false
+
+-- the file that is not the current one: spare, or open with these events behind this base
+abbrev pub other_file : (has_spare : Bool) → (base : ℕ) → List Named → JournalFile
+other_file true base former = Spare
+other_file false base former = Open base former
 
 module _ {D : Type 0} (g : disk.Ghosts D) where
   abbrev pub view_of : ShownStore D → stores.View
@@ -34,12 +41,17 @@ module _ {D : Type 0} (g : disk.Ghosts D) where
   abbrev pub HasItsNumber : ShownStore D → Type 0
   HasItsNumber s = HasNumber g s.devices s.progress.number s.counted
 
-  -- In each image of the devices the journals keep the same events: those from the first kept one up to the last durable one.
+  -- In each image of the devices the journals keep the same events, from the first kept one up to the last durable one: those
+  -- of the other journal, which is spare or has some, and then those of the current one.
   pub record HasItsEvents (s : ShownStore D) : Type 0 where
-    pub events : List Named
-    pub ends : s.turns.base + length events ≡ s.durable
+    pub former : List Named
+    pub later : List Named
+    pub has_other : Leaves (λ bytes. IsJournalFile bytes (other_file s.turns.has_spare s.turns.base former)) (g.state (other s))
+    pub has_current : Leaves (λ bytes. IsJournalFile bytes (Open s.turns.current_base later)) (g.state (current s))
+    pub begins : s.turns.current_base ≡ s.turns.base + length former
+    pub ends : s.turns.last ≡ s.turns.current_base + length later
     pub last : s.turns.last ≡ s.durable
-    pub images : (image : Image) → stores.IsLeft (states_of g s.devices) image → HasJournals s.turns.base events image
+    pub images : (image : Image) → stores.IsLeft (states_of g s.devices) image → HasJournals s.turns.base (former ++ later) image
 
   -- A store with this content that works, with nothing pending and no checkpoint in progress.
   pub record IsFresh (s : ShownStore D) (c : Content) : Type 0 where
