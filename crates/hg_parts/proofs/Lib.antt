@@ -1,0 +1,4 @@
+mod Numbers
+mod Queues
+mod Going
+mod Offering
