@@ -26,18 +26,10 @@ use Rattle.hg_check.specs.Checking.{Answered, IsRead, LeadsTo, next_named}
 use Rattle.hg_check.proofs.Steps.{never_duplicate}
 use Rattle.hg_parts.specs.declared.line.EventLine.{EventLine}
 use Rattle.hg_parts.proofs.Numbers.{behind}
+use Rattle.hg_parts.specs.GoingLaws.{counts_on, events_at}
 use Rattle.hg_parts.specs.Going.{At, Comes, Goes, Passes, PassesOne, Stops}
 
--- ---- lines that are accepted
-
-one_on : (event : Result Event LineFault) (c : Content) (t : Table) (some more : Content → Table → Type 0) → ((d : Content) (u : Table) → some d u → more d u) → PassesOne event c t some → PassesOne event c t more
-one_on (Err fault) c t some more on h = h
-one_on (Ok e) c t some more on h = (h.0, h.1, h.2, on (after c (next_named c e)) h.1 h.3)
-
-pub passes_on : (first later : List Reading) (c d x : Content) (t u y : Table) → Passes first c t d u → Passes later d u x y → Passes (first ++ later) c t x y
-passes_on [] later c d x t u y h k = subst (λ (e : Content). Passes later e t x y) h.0 (subst (λ (v : Table). Passes later d v x y) h.1 k)
-passes_on (r ∷ first) later c d x t u y h k =
-    one_on r.event c t (λ e v. Passes first e v d u) (λ e v. Passes (first ++ later) e v x y) (λ e v g. passes_on first later e d x v u y g k) h
+-- ---- what follows lines that are accepted
 
 leads_one : (event : Result Event LineFault) (line : ℕ) (c : Content) (t : Table) (some : Content → Table → Type 0) (later : Table → Content → Type 0) (last : Content) (end : Ending)
     → ((d : Content) (u : Table) → some d u → later u d) → PassesOne event c t some → IsRead event t c line later last end
@@ -66,16 +58,6 @@ pub leads_from_behind : (first later : List Reading) (c d last : Content) (t u :
 leads_from_behind [] later c d last t u end h k = subst (λ (e : Content). LeadsTo later u e last end) (sym h.0) (subst (λ (v : Table). LeadsTo later v c last end) (sym h.1) k)
 leads_from_behind (r ∷ first) later c d last t u end h k =
     back_one r.event r.line c t (λ e v. Passes first e v d u) (λ v e. LeadsTo (first ++ later) v e last end) last end (LeadsTo later u d last end) (λ e v g l. leads_from_behind first later e d last v u end g l) h k
-
-count_one : (event : Result Event LineFault) (c d : Content) (t : Table) (n : ℕ) (later : Content → Table → Type 0) → ((e : Content) (v : Table) → later e v → (d.last 0 ≡ e.last 0 + n) × (d.events ≡ e.events + n)) → PassesOne event c t later
-    → (d.last 0 ≡ c.last 0 + suc n) × (d.events ≡ c.events + suc n)
-count_one (Err fault) c d t n later on h = absurd h
-count_one (Ok e) c d t n later on h = let rest = on (after c (next_named c e)) h.1 h.3 in (omega (arith, rest.0), omega (arith, rest.1))
-
--- each is one event more of source 0
-pub counts_on : (lines : List Reading) (c d : Content) (t u : Table) → Passes lines c t d u → (d.last 0 ≡ c.last 0 + length lines) × (d.events ≡ c.events + length lines)
-counts_on [] c d t u h = (ap (λ (e : Content). e.last 0) h.0 ∙ (let none : c.last 0 ≡ c.last 0 + 0 = omega arith in none), ap (λ (e : Content). e.events) h.0 ∙ (let none : c.events ≡ c.events + 0 = omega arith in none))
-counts_on (r ∷ lines) c d t u h = count_one r.event c d t (length lines) (λ e v. Passes lines e v d u) (λ e v g. counts_on lines e d v u g) h
 
 -- ---- a batch of events, offered to a judge
 
@@ -177,10 +159,6 @@ goes_stop n front rest x c t cause r new h is = record {
 }
 
 -- ---- from the state of a judge
-
--- all events so far are of source 0
-pub events_at : (c : Content) (t : Table) (j : Judge) → At c t j → j.events ≡ c.last 0
-events_at c t j at = at.is_at.judged.count ∙ sym (ap (λ (d : Content). d.events) at.is_at.content) ∙ sym at.counted
 
 pub first_at : (c : Content) (t : Table) (j : Judge) (first : ℕ) → At c t j → first ≡ j.events + 1 → first ≡ c.last 0 + 1
 first_at c t j first at is = let same = events_at c t j at in omega (arith, is, same)

@@ -1,4 +1,6 @@
-mod Numbers
+pub mod Numbers
 mod Queues
-mod Going
+pub mod Going
 mod Offering
+mod Taking
+mod Sinking

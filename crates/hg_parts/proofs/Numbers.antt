@@ -151,3 +151,7 @@ pub numbers_more : (old new : List Run) (greatest more place line : ℕ) (l : Ev
     → AreNumbered old greatest lines → news ≡ l ∷ lines → AreNumbered new more news
 numbers_more old new greatest more place line l lines news noted is same le fits h grown =
     subst (λ (ls : List EventLine). AreNumbered new more ls) (sym grown) (numbered_more old new greatest more place line l lines noted is same le fits h)
+
+pub no_readings : (lines : List EventLine) → length lines ≡ 0 → readings_in lines ≡ []
+no_readings [] none = refl
+no_readings (l ∷ earlier) none = absurd (omega (arith, none))

@@ -4,4 +4,7 @@ pub mod Readiness
 pub mod Holding
 pub mod Queues
 pub mod Going
+pub mod GoingLaws
 pub mod Stopping
+pub mod Taking
+pub mod TakingLaws

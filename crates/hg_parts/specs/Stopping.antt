@@ -1,7 +1,8 @@
 -- How a stop of a judge ends a run.
-use Rattle.std.specs.Prelude.{◌≡◌, ℕ, ◌+◌, Ok}
+use Rattle.std.specs.Prelude.{◌≡◌, ℕ, ◌+◌, Ok, Err}
 use Rattle.hg_model.specs.declared.event.Event.{Event}
 use Rattle.hg_model.specs.declared.verdict.Refusal.{Refusal}
+use Rattle.hg_wire.specs.declared.line.LineFault.{LineFault}
 use Rattle.hg_wire.specs.declared.reader.Reading.{Reading}
 use Rattle.hg_reading.specs.declared.ending.Ending.{Ending}
 use Rattle.hg_reading.specs.declared.ending.Ending.TheVariants.{Refused}
@@ -14,6 +15,10 @@ use Rattle.hg_parts.specs.Numbers.{number_at}
 -- what is read of the line of an event
 abbrev pub reading_at : ℕ → Event → Reading
 reading_at line e = record { line = line; event = Ok e }
+
+-- what is read of a bad line
+abbrev pub bad_at : ℕ → LineFault → Reading
+bad_at line fault = record { line = line; event = Err fault }
 
 -- The line was refused for this cause.
 abbrev pub TellsCause : ℕ → Cause → Ending → Type 0

@@ -22,13 +22,14 @@ pub struct Batch {
     pub(crate) greatest: u64,
     /// The lines, the newest first.
     pub(crate) lines: Trail<EventLine>,
+    ghost fits: { greatest < 2 ^ 64 },
     ghost routed: { IsRouted (events_in lines) routes } by { routed_prop (events_in lines) routes },
     ghost numbered: { AreNumbered runs.items greatest lines } by { numbered_prop runs.items greatest lines },
 }
 
 impl Batch {
-    ghost use Rattle.std.specs.Prelude.{IfOk};
-    ghost use Rattle.hg_parts.specs.Holding.{HasLine, HasNone, parts_of_batch};
+    ghost use Rattle.std.specs.Prelude.{IfOk, true};
+    ghost use Rattle.hg_parts.specs.Holding.{HasLine, HasNone, parts_of_batch, readings_held};
 
     /// No lines, for so many parts: 1 at least. There is room for so many in the list of each part, and for as many that all parts see.
     pub fn new(alloc: Global, parts: usize, own: usize, common: usize) -> Result<Batch, AllocError>
@@ -77,5 +78,21 @@ impl Batch {
         self.runs.clear();
         self.greatest = 0;
         self.lines = Trail::new();
+    }
+
+    /// Whether there are no lines.
+    #[inline(always)]
+    pub fn is_empty(&self) -> bool
+        ensures { result ≡ true → readings_held self.now ≡ [] }
+    {
+        self.routes.count() == 0
+    }
+
+    /// For how many parts it is.
+    pub fn parts(&self) -> usize
+        ensures value { result ≡ parts_of_batch self.now }
+        ensures some { 1 ≤ result }
+    {
+        self.routes.lists().len()
     }
 }

@@ -2,6 +2,7 @@
 #![tactic(auto)]
 
 pub mod batch;
+pub mod checking;
 mod judging;
 pub mod line;
 pub mod queue;
