@@ -1,0 +1,6 @@
+pub mod Numbers
+mod Queues
+pub mod Going
+mod Offering
+mod Taking
+mod Sinking

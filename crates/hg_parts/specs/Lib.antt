@@ -1,0 +1,10 @@
+pub mod Numbers
+pub mod Batches
+pub mod Readiness
+pub mod Holding
+pub mod Queues
+pub mod Going
+pub mod GoingLaws
+pub mod Stopping
+pub mod Taking
+pub mod TakingLaws
