@@ -10,7 +10,7 @@ invariant_of-self-then-self-line c =
     let lt = c.if-self-line.true in
     record {
       fits = c.ranges.line.fits;
-      routed = routed_more b.routes c.push.new.self b.lines c.push-2.new.self l c.if-not-push.ensures.1 b.routed c.push-2.ensures;
+      routed = routed_more b.routes c.push.new.self b.lines c.push-2.new.self l c.if-not-push.ensures.pushes.1 b.routed c.push-2.ensures;
       numbered = numbers_more b.runs.items c.note.new.runs.items b.greatest c.args.line c.count-place.result c.args.line l b.lines c.push-2.new.self c.note.ensures (c.count-place.ensures ∙ placed_last b.routes b.lines b.routed) refl
           (omega (arith, lt)) (omega arith) b.numbered c.push-2.ensures;
     }
@@ -22,7 +22,7 @@ invariant_of-self-else-self-line c =
     let ge = c.if-self-line.false in
     record {
       fits = b.fits;
-      routed = routed_more b.routes c.push.new.self b.lines c.push-2.new.self l c.if-not-push.ensures.1 b.routed c.push-2.ensures;
+      routed = routed_more b.routes c.push.new.self b.lines c.push-2.new.self l c.if-not-push.ensures.pushes.1 b.routed c.push-2.ensures;
       numbered = numbers_more b.runs.items c.note.new.runs.items b.greatest b.greatest c.count-place.result c.args.line l b.lines c.push-2.new.self c.note.ensures (c.count-place.ensures ∙ placed_last b.routes b.lines b.routed) refl
           (omega arith) (omega (arith, ge)) b.numbered c.push-2.ensures;
     }
