@@ -8,7 +8,7 @@ use Rattle.hg_cells.specs.declared.cell.Cell.{Cell}
 use Rattle.hg_pool.specs.Kept.{Stays, Went}
 use Rattle.hg_pool.specs.Shown as pool
 use Rattle.hg_root.specs.Checkpoints.{Checkpoint}
-use Rattle.hg_contents.specs.Choices.{Basis, Stands}
+use Rattle.hg_images.specs.Choices.{Basis, Stands}
 use Rattle.hg_contents.specs.Images.{content_of}
 use Rattle.hg_contents.specs.Maps.{IsNewElsewhere, checkpoint_of}
 use Rattle.hg_contents.specs.States.{IsLawfulState}
@@ -58,11 +58,11 @@ module _ {D : Type 0} (g : disk.Ghosts D) (s : Parts D g) (basis : Basis) (is : 
 
   -- ---- a page is put
 
-  stays_moved : (w : pool.ShownPool D) → s.is_broken ≡ false → Stays g s.detector.words w → Moved g basis s.pending s.in_doubt (shown_of g s).devices (devices_of g s.journal w s.checkpointer)
+  stays_moved : (w : pool.ShownPool D) → s.is_broken ≡ false → Stays g s.detector.words w → Moved g basis s.pending s.in_doubt (shown_of g s).devices (devices_of g s.journals w s.checkpointer)
   stays_moved w works stays = pool_moved g s basis is bytes works s.checkpointer w stays.went refl
 
   pub put_images : (w : pool.ShownPool D) → s.is_broken ≡ false → Stays g s.detector.words w
-      → EachImage g (shown_of g s).devices (devices_of g s.journal w s.checkpointer) (Stands (saved g (shown_of g s)) (live g (shown_of g s)) s.in_doubt)
+      → EachImage g (shown_of g s).devices (devices_of g s.journals w s.checkpointer) (Stands (saved g (shown_of g s)) (live g (shown_of g s)) s.in_doubt)
   put_images w works stays = images_after g s basis is basis s.checkpointer w is.keeps.gives (stays_moved w works stays)
 
   pub put_standing : (w : pool.ShownPool D) (broken : Bool) → s.is_broken ≡ false → Stays g s.detector.words w → Standing g (with_parts g s basis is s.checkpointer (over g s.detector w) broken) basis
@@ -74,11 +74,11 @@ module _ {D : Type 0} (g : disk.Ghosts D) (s : Parts D g) (basis : Basis) (is : 
 
   -- ---- the pages are sealed
 
-  seal_moved : (c : Checkpointer D g) (w : pool.ShownPool D) → s.is_broken ≡ false → Stays g s.detector.words w → c.roots ≡ s.checkpointer.roots → Moved g basis s.pending s.in_doubt (shown_of g s).devices (devices_of g s.journal w c)
+  seal_moved : (c : Checkpointer D g) (w : pool.ShownPool D) → s.is_broken ≡ false → Stays g s.detector.words w → c.roots ≡ s.checkpointer.roots → Moved g basis s.pending s.in_doubt (shown_of g s).devices (devices_of g s.journals w c)
   seal_moved c w works stays same = pool_moved g s basis is bytes works c w stays.went same
 
   pub seal_images : (c : Checkpointer D g) (w : pool.ShownPool D) → s.is_broken ≡ false → Stays g s.detector.words w → c.roots ≡ s.checkpointer.roots
-      → EachImage g (shown_of g s).devices (devices_of g s.journal w c) (Stands (saved g (shown_of g s)) (live g (shown_of g s)) s.in_doubt)
+      → EachImage g (shown_of g s).devices (devices_of g s.journals w c) (Stands (saved g (shown_of g s)) (live g (shown_of g s)) s.in_doubt)
   seal_images c w works stays same = images_after g s basis is basis c w is.keeps.gives (seal_moved c w works stays same)
 
   pub sealing_failed : (c : Checkpointer D g) (w : pool.ShownPool D) → s.is_broken ≡ false → Stays g s.detector.words w → c.roots ≡ s.checkpointer.roots → Standing g (with_parts g s basis is c (over g s.detector w) true) basis
@@ -116,17 +116,18 @@ module _ {D : Type 0} (g : disk.Ghosts D) (s : Parts D g) (basis : Basis) (is : 
       let was = is.works works in
       stands_after g s basis is basis c (over g s.detector w) broken (same_content g s.detector w (stays.live_is is.faithful.whole)) is.spelled (stays_faithful g s.detector w stays is.faithful) is.keeps.gives (seal_moved c w works stays same) (λ _. record {
         certain = was.certain;
-        one = was.one;
-        journal = was.journal;
+        rests = was.rests;
+        journals = was.journals;
         stands = stands;
         number = keeps.number ∙ was.number;
+        counted = was.counted;
         progress = subst (λ (p : Phase). IsInProgress g p (with_parts g s basis is c (over g s.detector w) broken) basis) (sym at) (rooting c w broken stays keeps f next new);
       })
 
   -- ---- the root is prepared and written
 
   pub roots_images : (c : Checkpointer D g) → EachNow g s.checkpointer.roots c.roots basis.now.checkpoint basis.now.former
-      → EachImage g (shown_of g s).devices (devices_of g s.journal s.detector.words c) (Stands (saved g (shown_of g s)) (live g (shown_of g s)) s.in_doubt)
+      → EachImage g (shown_of g s).devices (devices_of g s.journals s.detector.words c) (Stands (saved g (shown_of g s)) (live g (shown_of g s)) s.in_doubt)
   roots_images c each = images_after g s basis is basis c s.detector.words is.keeps.gives (roots_moved g s basis is c each)
 
   pub rooting_failed : (c : Checkpointer D g) → EachNow g s.checkpointer.roots c.roots basis.now.checkpoint basis.now.former → Standing g (with_parts g s basis is c s.detector true) basis
@@ -151,9 +152,10 @@ module _ {D : Type 0} (g : disk.Ghosts D) (s : Parts D g) (basis : Basis) (is : 
       let was = is.works works in
       stands_after g s basis is basis c s.detector broken refl is.spelled is.faithful is.keeps.gives (roots_moved g s basis is c each) (λ _. record {
         certain = was.certain;
-        one = was.one;
-        journal = was.journal;
+        rests = was.rests;
+        journals = was.journals;
         stands = stands;
         number = keeps.number ∙ was.number;
+        counted = was.counted;
         progress = by_phase c.phase c broken at (still_rooting c broken keeps r next);
       })

@@ -1,65 +1,67 @@
 -- A store goes on by a commit.
-use Rattle.std.proofs.Common.{◌≡◌, ◌⊎◌, inl, inr, ◌∙◌, ℕ, List, [], ◌++◌, Bool, true, false, Some, refl, sym, ap, subst, append_assoc}
+use Rattle.std.proofs.Common.{◌≡◌, inl, ◌∙◌, ℕ, List, [], ◌++◌, Bool, true, false, Some, refl, sym, ap, subst}
 use Rattle.hg_model.specs.declared.event.Named.{Named}
 use Rattle.hg_model.specs.Contents.{Content}
 use Rattle.hg_model.specs.Change.{followed}
 use Rattle.hg_detect.specs.Shown as detect
-use Rattle.hg_disk.specs.Moments.{Leaves, LeavesOnly}
 use Rattle.hg_disk.specs.declared.disk.Disk as disk
-use Rattle.hg_disk.proofs.Moments.{started, weaker}
-use Rattle.hg_journal.specs.declared.journal.Journal.{Journal}
-use Rattle.hg_journal.specs.Journal.{IsJournal}
-use Rattle.hg_journal.specs.Reading as journals
+use Rattle.hg_disk.proofs.Moments.{started}
+use Rattle.hg_journals.specs.Journals.{HaveAllOrNone}
+use Rattle.hg_journals.specs.declared.pair.JournalPair.{JournalPair}
+use Rattle.hg_journals.specs.Pairs as journals
 use Rattle.hg_pool.specs.Maps as pools
 use Rattle.hg_pool.specs.Shown as pool
-use Rattle.hg_contents.specs.Choices.{Basis, Choice, GivesDurable, HasBothSlots, HasEvents, Stands}
-use Rattle.hg_contents.specs.Images.{Gives, start_of}
-use Rattle.hg_contents.proofs.Following.{lead_on}
+use Rattle.hg_images.specs.Choices.{Basis, GivesDurable, HasBothSlots, HaveEvents, Stands}
+use Rattle.hg_images.specs.Steps.{CommitStands, IsAtRest, committed}
+use Rattle.hg_images.proofs.Stepping.{commits}
 use Rattle.hg_checkpoint.specs.declared.phase.Phase.{Phase}
 use Rattle.hg_checkpoint.specs.declared.phase.Phase.TheVariants as phase
 use Rattle.hg_store.specs.Images.{EachImage}
-use Rattle.hg_store.specs.Kept.{IsFreezing, IsFront, IsInProgress, IsRooting, Parts, Standing, devices_of, shown_of}
+use Rattle.hg_store.specs.Kept.{IsFreezing, IsInProgress, IsRooting, Parts, Standing, devices_of, shown_of}
 use Rattle.hg_store.specs.Shown.{live, saved}
 use Rattle.hg_store.specs.Store.{view_of}
-use Rattle.hg_store.proofs.Moments.{Moved, each_image, keeps_after, none_moved}
+use Rattle.hg_store.proofs.Moments.{Moved, each_image, journals_weaker, keeps_after, kept_images, none_moved}
 
-module _ {D : Type 0} (g : disk.Ghosts D) (s : Parts D g) (basis : Basis) (is : Standing g s basis) (journal : Journal D g) where
+module _ {D : Type 0} (g : disk.Ghosts D) (s : Parts D g) (basis : Basis) (is : Standing g s basis) (pair : JournalPair D g) (rests : IsAtRest basis) where
   abbrev pub Appends : Type 0
-  Appends = LeavesOnly g (journals.disk_of s.journal) (journals.disk_of journal) (λ image. IsJournal image basis.events ⊎ IsJournal image (basis.events ++ s.pending))
+  Appends = journals.EachPair s.journals pair (HaveAllOrNone basis.base basis.events s.pending)
 
-  in_either : (image : List ℕ) → IsJournal image basis.events ⊎ IsJournal image (basis.events ++ s.pending) → HasEvents basis.events s.pending true image
-  in_either image (inl old) = inl old
-  in_either image (inr new) = inr (refl, new)
+  -- what the basis says meanwhile, and after it
+  stood : CommitStands basis s.pending (live g (shown_of g s))
+  stood = commits basis s.pending (saved g (shown_of g s)) (live g (shown_of g s)) rests is.keeps.gives is.keeps.live
 
-  -- the journal alone is called
-  moved : Appends → Moved g basis s.pending true (shown_of g s).devices (devices_of g journal s.detector.words s.checkpointer)
+  -- the journals alone are called
+  moved : Appends → Moved g basis s.pending true (shown_of g s).devices (devices_of g pair s.detector.words s.checkpointer)
   moved appends = record {
-    journal = weaker g (journals.disk_of s.journal) (journals.disk_of journal) (λ image. IsJournal image basis.events ⊎ IsJournal image (basis.events ++ s.pending)) (HasEvents basis.events s.pending true) appends in_either;
+    journals = journals_weaker g (journals.first_of s.journals) (journals.first_of pair) (journals.second_of s.journals) (journals.second_of pair) (HaveAllOrNone basis.base basis.events s.pending) (HaveEvents basis s.pending true)
+        (λ one other. (stood.during one other).0) appends;
     roots = none_moved g basis (view_of g (shown_of g s)) (saved g (shown_of g s)) (shown_of g s).devices refl is.keeps;
     slots = started g (shown_of g s).devices.slots (HasBothSlots basis) is.keeps.slots;
   }
 
-  pub images : Appends → EachImage g (shown_of g s).devices (devices_of g journal s.detector.words s.checkpointer) (Stands (saved g (shown_of g s)) (live g (shown_of g s)) true)
+  pub images : Appends → EachImage g (shown_of g s).devices (devices_of g pair s.detector.words s.checkpointer) (Stands (saved g (shown_of g s)) (live g (shown_of g s)) true)
   images appends =
-      each_image g basis s.pending true (shown_of g s).devices (devices_of g journal s.detector.words s.checkpointer) (moved appends) (saved g (shown_of g s)) (live g (shown_of g s)) is.keeps.gives is.keeps.live
+      each_image g basis s.pending true (shown_of g s).devices (devices_of g pair s.detector.words s.checkpointer) (moved appends) (saved g (shown_of g s)) (live g (shown_of g s)) is.keeps.gives is.keeps.live
 
-  abbrev pub with_journal : detect.ShownDetector (pool.ShownPool D) → List Named → ℕ → Bool → Parts D g
-  with_journal committed pending durable broken = record {
-    journal = journal;
+  abbrev pub with_journals : detect.ShownDetector (pool.ShownPool D) → List Named → ℕ → Bool → Bool → Parts D g
+  with_journals was pending durable broken doubt = record {
+    journals = pair;
     detector = s.detector;
     checkpointer = s.checkpointer;
-    committed = committed;
+    committed = was;
     frozen = s.frozen;
     pending = pending;
     durable = durable;
+    counted = s.counted;
+    counting = s.counting;
     is_broken = broken;
-    in_doubt = broken;
+    in_doubt = doubt;
   }
 
   -- a device failed
-  pub failed : Appends → Standing g (with_journal s.committed s.pending s.durable true) basis
+  pub failed : Appends → Standing g (with_journals s.committed s.pending s.durable true true) basis
   failed appends = record {
-    keeps = keeps_after g basis s.pending true (shown_of g s).devices (devices_of g journal s.detector.words s.checkpointer) (moved appends) (saved g (shown_of g s)) (live g (shown_of g s)) is.keeps.gives is.keeps.live s.durable
+    keeps = keeps_after g basis s.pending true (shown_of g s).devices (devices_of g pair s.detector.words s.checkpointer) (moved appends) (saved g (shown_of g s)) (live g (shown_of g s)) is.keeps.gives is.keeps.live s.durable
         is.keeps.count;
     faithful = is.faithful;
     state = is.state;
@@ -69,48 +71,33 @@ module _ {D : Type 0} (g : disk.Ghosts D) (s : Parts D g) (basis : Basis) (is : 
 
   -- the basis with the pending events
   abbrev pub grown : Basis
-  grown = record { events = basis.events ++ s.pending; now = basis.now; next = basis.next }
-
-  gives_grown : (choice : Choice) → Gives choice.checkpoint basis.events (saved g (shown_of g s)) → Gives choice.checkpoint (basis.events ++ s.pending) (live g (shown_of g s))
-  gives_grown choice gives = lead_on (start_of choice.checkpoint) (saved g (shown_of g s)) basis.events gives s.pending (live g (shown_of g s)) is.keeps.live
+  grown = committed basis s.pending
 
   module _ (durable : ℕ) where
-    abbrev committed : Parts D g
-    committed = with_journal s.detector [] durable false
+    abbrev succeeding : Parts D g
+    succeeding = with_journals s.detector [] durable false false
 
-    front : (c : Content) → IsFront basis c → IsFront grown c
-    front c f = record {
-      front = f.front;
-      since = f.since ++ s.pending;
-      split = sym (append_assoc f.front f.since s.pending) ∙ ap (λ (es : List Named). es ++ s.pending) f.split;
-      gives = f.gives;
-    }
+    freezing : IsFreezing g s basis → IsFreezing g succeeding grown
+    freezing f = record { was = f.was; content = f.content; state = f.state; front = stood.fronts _ f.front; draft = f.draft }
 
-    freezing : IsFreezing g s basis → IsFreezing g committed grown
-    freezing f = record { was = f.was; content = f.content; state = f.state; front = front _ f.front; draft = f.draft }
-
-    rooting : IsRooting g s basis → IsRooting g committed grown
+    rooting : IsRooting g s basis → IsRooting g succeeding grown
     unfolding freezing
     rooting r = record { freezing = freezing r.freezing; next = r.next; is_next = r.is_next; content = r.content }
 
-    in_progress : (at : Phase) → IsInProgress g at s basis → IsInProgress g at committed grown
+    in_progress : (at : Phase) → IsInProgress g at s basis → IsInProgress g at succeeding grown
     in_progress phase.Idle p = tt
     in_progress phase.Flushing p = freezing p
     in_progress phase.Sealed p = rooting p
     in_progress phase.Prepared p = rooting p
     in_progress phase.Written p = rooting p
 
-    has_grown : (image : List ℕ) → IsJournal image (basis.events ++ s.pending) → HasEvents grown.events [] false image
-    has_grown image has = inl has
-
-    pub succeeded : s.is_broken ≡ false → durable ≡ (live g (shown_of g s)).events → journals.KeepsEvents journal (basis.events ++ s.pending) → Leaves (λ image. IsJournal image (basis.events ++ s.pending)) (g.state (journals.disk_of journal))
-        → Standing g committed grown
-    succeeded works count keeps leaves = record {
+    succeeded : s.is_broken ≡ false → durable ≡ (live g (shown_of g s)).events → journals.Keeps pair basis.base (basis.events ++ s.pending) → Standing g succeeding grown
+    succeeded works count keeps = record {
       keeps = record {
-        gives = record { now = gives_grown basis.now is.keeps.gives.now; next = gives_grown basis.next is.keeps.gives.next };
+        gives = stood.gives;
         live = refl;
         count = count;
-        journal = λ image left. has_grown image (leaves image left);
+        journals = λ one other is_one is_other. inl (inl (kept_images g pair basis.base (basis.events ++ s.pending) keeps one other is_one is_other));
         roots = is.keeps.roots;
         slots = is.keeps.slots;
       };
@@ -121,35 +108,23 @@ module _ {D : Type 0} (g : disk.Ghosts D) (s : Parts D g) (basis : Basis) (is : 
           let w = is.works works in
           record {
             certain = refl;
-            one = w.one;
-            journal = keeps;
+            rests = stood.rests;
+            journals = keeps;
             stands = w.stands;
             number = w.number;
+            counted = w.counted;
             progress = in_progress s.checkpointer.phase w.progress;
           };
     }
 
-    abbrev as_committed : detect.ShownDetector (pool.ShownPool D) → List Named → Bool → Bool → Parts D g
-    as_committed was pending broken doubt = record {
-      journal = journal;
-      detector = s.detector;
-      checkpointer = s.checkpointer;
-      committed = was;
-      frozen = s.frozen;
-      pending = pending;
-      durable = durable;
-      is_broken = broken;
-      in_doubt = doubt;
-    }
-
     -- a commit succeeded, with parts that are equal to these
     pub succeeded_as : (was : detect.ShownDetector (pool.ShownPool D)) (pending : List Named) (broken doubt : Bool) → was ≡ s.detector → pending ≡ [] → broken ≡ false → doubt ≡ false
-        → Standing g committed grown → Standing g (as_committed was pending broken doubt) grown
-    succeeded_as was pending broken doubt same none works certain is =
-        subst (λ (x : detect.ShownDetector (pool.ShownPool D)). Standing g (as_committed x pending broken doubt) grown) (sym same)
-        (subst (λ (x : List Named). Standing g (as_committed s.detector x broken doubt) grown) (sym none)
-        (subst (λ (x : Bool). Standing g (as_committed s.detector [] x doubt) grown) (sym works)
-        (subst (λ (x : Bool). Standing g (as_committed s.detector [] false x) grown) (sym certain) is)))
+        → s.is_broken ≡ false → durable ≡ (live g (shown_of g s)).events → journals.Keeps pair basis.base (basis.events ++ s.pending) → Standing g (with_journals was pending durable broken doubt) grown
+    succeeded_as was pending broken doubt same none works certain worked count keeps =
+        subst (λ (x : detect.ShownDetector (pool.ShownPool D)). Standing g (with_journals x pending durable broken doubt) grown) (sym same)
+        (subst (λ (x : List Named). Standing g (with_journals s.detector x durable broken doubt) grown) (sym none)
+        (subst (λ (x : Bool). Standing g (with_journals s.detector [] durable x doubt) grown) (sym works)
+        (subst (λ (x : Bool). Standing g (with_journals s.detector [] durable false x) grown) (sym certain) (succeeded worked count keeps))))
 
 -- a commit of nothing
 module _ {D : Type 0} (g : disk.Ghosts D) (s : Parts D g) (basis : Basis) (is : Standing g s basis) (none : s.pending ≡ []) where
@@ -161,13 +136,15 @@ module _ {D : Type 0} (g : disk.Ghosts D) (s : Parts D g) (basis : Basis) (is : 
 
   abbrev marked : detect.ShownDetector (pool.ShownPool D) → ℕ → Parts D g
   marked was durable = record {
-    journal = s.journal;
+    journals = s.journals;
     detector = s.detector;
     checkpointer = s.checkpointer;
     committed = was;
     frozen = s.frozen;
     pending = s.pending;
     durable = durable;
+    counted = s.counted;
+    counting = s.counting;
     is_broken = s.is_broken;
     in_doubt = s.in_doubt;
   }
@@ -195,7 +172,7 @@ module _ {D : Type 0} (g : disk.Ghosts D) (s : Parts D g) (basis : Basis) (is : 
           gives = subst (λ (c : Content). GivesDurable basis c) stays is.keeps.gives;
           live = subst (λ (c : Content). followed c s.pending ≡ Some (live g (shown_of g s))) stays is.keeps.live;
           count = count ∙ ap (λ (c : Content). c.events) (sym now);
-          journal = is.keeps.journal;
+          journals = is.keeps.journals;
           roots = is.keeps.roots;
           slots = is.keeps.slots;
         };
@@ -206,10 +183,11 @@ module _ {D : Type 0} (g : disk.Ghosts D) (s : Parts D g) (basis : Basis) (is : 
             let w = is.works works in
             record {
               certain = w.certain;
-              one = w.one;
-              journal = w.journal;
+              rests = w.rests;
+              journals = w.journals;
               stands = w.stands;
               number = w.number;
+              counted = w.counted;
               progress = still_in_progress was durable s.checkpointer.phase w.progress;
             };
       }

@@ -1,6 +1,6 @@
 -- A store goes on by a freeze.
-use Rattle.std.proofs.Common.{◌≡◌, ◌∙◌, inl, inr, ⊎_elim, ◌+◌, ◌<◌, ℕ, List, [], ◌∷◌, Bool, false, length, Option, Some, None, Err, refl, sym, ap, subst, arith}
-use Rattle.std.specs.Prelude.{◌≢◌}
+use Rattle.std.proofs.Common.{◌≡◌, ◌∙◌, inl, inr, ⊎_elim, ◌+◌, ◌<◌, ℕ, List, [], ◌∷◌, Bool, false, length, Option, Some, None, Result, Ok, Err, ◌&&◌, nat_lt, if◌then◌else◌, refl, sym, ap, subst, arith}
+use Rattle.std.specs.Prelude.{◌≢◌, OnOk, MatchBool}
 use Rattle.std.proofs.lemmas.Bool.{true≢false}
 use Rattle.std.proofs.lemmas.List.{append-nil}
 use Rattle.hg_model.specs.declared.event.Named.{Named}
@@ -21,8 +21,9 @@ use Rattle.hg_root.specs.Grammar.{head_text}
 use Rattle.hg_root.specs.Lawful.{IsLawfulHead}
 use Rattle.hg_root.specs.Newest.{IsBelow}
 use Rattle.hg_root.specs.Pairs.{first_of, second_of}
-use Rattle.hg_contents.specs.Choices.{Basis, HasBothSlots, HasEvents}
-use Rattle.hg_contents.specs.Images.{Gives}
+use Rattle.hg_images.specs.Choices.{Basis, HasBothSlots, HaveEvents, Stands}
+use Rattle.hg_images.specs.Images.{Gives}
+use Rattle.hg_images.specs.Steps.{IsFront}
 use Rattle.hg_contents.specs.Maps.{IsKnownTo}
 use Rattle.hg_contents.proofs.lawful.Sharing.{live_known}
 use Rattle.hg_pool.specs.Picking.{LacksSlots}
@@ -37,15 +38,20 @@ use Rattle.hg_checkpoint.specs.declared.checkpointer.Checkpointer.{Checkpointer}
 use Rattle.hg_checkpoint.specs.declared.phase.Phase.{Phase}
 use Rattle.hg_checkpoint.specs.declared.phase.Phase.TheVariants as phase
 use Rattle.hg_checkpoint.specs.Standing as checkpoints
-use Rattle.hg_store.specs.Kept.{IsFreezing, IsFront, IsInProgress, Parts, Standing, devices_of, shown_of}
+use Rattle.hg_store.specs.Kept.{IsFreezing, IsInProgress, Parts, Standing, devices_of, shown_of}
+use Rattle.hg_disk.specs.Calls.{CallsAtMost}
 use Rattle.hg_store.specs.Answers.{IfRefused, IsAllowed, IsOfFreezing}
-use Rattle.hg_store.specs.Shown.{ShownStore, live, phase_by, phase_of, saved, words}
+use Rattle.hg_store.specs.Doing.{BeginsWhenIdle, LeavesCurrent, TakesTurns, TurnAnswers, other_since}
+use Rattle.hg_store.specs.Images.{EachImage}
+use Rattle.hg_store.specs.Steps.{SameButJournals}
+use Rattle.hg_store.specs.declared.steps.StepFault.{StepFault}
+use Rattle.hg_store.specs.Shown.{Progress, ShownStore, Turns, after_turn, live, other, phase_by, phase_of, saved, words}
 use Rattle.hg_store.specs.declared.steps.StepFault.TheVariants as step
 use Rattle.hg_store.specs.declared.steps.StorePhase.TheVariants as store
 use Rattle.hg_disk.proofs.Moments.{started}
 use Rattle.hg_store.specs.declared.devices.Devices.{Devices}
-use Rattle.hg_store.specs.Store.{view_of}
-use Rattle.hg_store.proofs.Moments.{Moved, none_moved}
+use Rattle.hg_store.specs.Store.{StandMeanwhile, view_of}
+use Rattle.hg_store.proofs.Moments.{Moved, journals_still, none_moved}
 use Rattle.hg_store.proofs.Staying.{over, same_content, stands_with, with_frozen}
 
 -- a store that rests has no checkpoint in progress, and nothing waits
@@ -80,6 +86,65 @@ pub freeze_is_spelled : {D : Type 0} (T U : Type 0) (p : pool.ShownPool D) (b : 
 freeze_is_spelled T U p b at Lawful r (inl broken) damaged = absurd (cc (sym broken.1 ∙ damaged))
 freeze_is_spelled T U p b at Lawful r (inr may) damaged = ⊎_elim (λ none. absurd (cc (sym none ∙ damaged))) (λ full. absurd (cc (sym full.0 ∙ damaged))) may.2
 
+-- A checkpoint has begun, and then the journals took turns.
+module _ {D : Type 0} (g : disk.Ghosts D) (old mid new : ShownStore D) where
+  pub begun : (result : Result (Unit {0}) StepFault) → BeginsWhenIdle old mid (Ok tt) → old.progress.number < MOST_CHECKPOINTS → TurnAnswers mid new result → SameButJournals mid new → BeginsWhenIdle old new result
+  begun (Ok value) done few answers same = record {
+    allowed = done.allowed;
+    phase = ap (λ (p : Progress). p.phase) same.progress ∙ done.phase;
+    works = answers.0;
+    unchanged = tt;
+    refused = tt;
+    pending = same.pending ∙ done.pending;
+    committed = same.committed ∙ done.committed;
+    durable = same.durable ∙ done.durable;
+    in_doubt = same.in_doubt ∙ done.in_doubt;
+  }
+  begun (Err f) done few answers same = subst (λ (x : StepFault). BeginsWhenIdle old new (Err x)) (sym answers.0) (record {
+    allowed = inr (done.allowed.0, done.allowed.1, few);
+    phase = tt;
+    works = tt;
+    unchanged = tt;
+    refused = (λ _. answers.1, λ other. absurd (other refl));
+    pending = same.pending ∙ done.pending;
+    committed = same.committed ∙ done.committed;
+    durable = same.durable ∙ done.durable;
+    in_doubt = same.in_doubt ∙ done.in_doubt;
+  })
+
+  -- a failed turn is told as one
+  pub turn_undamaged : (result : Result (Unit {0}) StepFault) → TurnAnswers mid new result → IfRefused (λ r. r ≢ cause.Damaged) result
+  turn_undamaged (Ok value) answers = tt
+  turn_undamaged (Err f) answers = subst (λ (x : StepFault). IfRefused {T = Unit {0}} (λ r. r ≢ cause.Damaged) (Err x)) (sym answers.0) (λ damaged. absurd (cc damaged))
+
+  pub on_turn : {P : Type 0} (result : Result (Unit {0}) StepFault) → P → OnOk result P
+  on_turn (Ok value) holds = holds
+  on_turn (Err f) holds = tt
+
+  module _ (devices : mid.devices ≡ old.devices) (turns : mid.turns ≡ old.turns) where
+    pub takes_turns : (result : Result (Unit {0}) StepFault) → TurnAnswers mid new result → OnOk result (TakesTurns old new)
+    takes_turns (Ok value) answers =
+        subst (λ (t : Turns). MatchBool (t.has_spare && nat_lt t.current_base t.last) (new.turns ≡ after_turn t) (new.turns ≡ t × (new.devices ≡ old.devices))) turns
+        (subst (λ (d : Devices D). MatchBool (mid.turns.has_spare && nat_lt mid.turns.current_base mid.turns.last) (new.turns ≡ after_turn mid.turns) (new.turns ≡ mid.turns × (new.devices ≡ d))) devices answers.1)
+    takes_turns (Err f) answers = tt
+
+    pub leaves_current : LeavesCurrent mid new → LeavesCurrent old new
+    leaves_current is =
+        subst (λ (t : Turns). (if t.is_turned then new.devices.journal0 else new.devices.journal1) ≡ (if t.is_turned then old.devices.journal0 else old.devices.journal1)) turns
+        (subst (λ (d : Devices D). (if mid.turns.is_turned then new.devices.journal0 else new.devices.journal1) ≡ (if mid.turns.is_turned then d.journal0 else d.journal1)) devices is)
+
+    pub calls_other : (n : ℕ) → CallsAtMost g n (other mid) (other_since mid new) → CallsAtMost g n (other old) (other_since old new)
+    calls_other n is =
+        subst (λ (t : Turns). CallsAtMost g n (if t.is_turned then old.devices.journal1 else old.devices.journal0) (if t.is_turned then new.devices.journal1 else new.devices.journal0)) turns
+        (subst (λ (d : Devices D). CallsAtMost g n (if mid.turns.is_turned then d.journal1 else d.journal0) (if mid.turns.is_turned then new.devices.journal1 else new.devices.journal0)) devices is)
+
+    pub stands_on : mid.committed ≡ old.committed → live g mid ≡ live g old → mid.in_doubt ≡ old.in_doubt → StandMeanwhile g mid new mid.in_doubt → StandMeanwhile g old new old.in_doubt
+    stands_on committed content doubt is =
+        subst (λ (d : Devices D). EachImage g d new.devices (Stands (saved g old) (live g old) old.in_doubt)) devices
+        (subst (λ (b : Bool). EachImage g mid.devices new.devices (Stands (saved g old) (live g old) b)) doubt
+        (subst (λ (c : Content). EachImage g mid.devices new.devices (Stands (saved g old) c mid.in_doubt)) content
+        (subst (λ (c : Content). EachImage g mid.devices new.devices (Stands c (live g mid) mid.in_doubt)) (ap (λ (d : detect.ShownDetector (pool.ShownPool D)). detect.content (pools.live g) d) committed) is)))
+
 -- the draft by the number that the checkpointer noted
 pub draft_of : {D : Type 0} (g : disk.Ghosts D) (c : Checkpointer D g) (w : pool.ShownPool D) (to : Option Checkpoint) (was : detect.ShownDetector (ℕ → Cell)) (number : ℕ) → c.next ≡ number
     → checkpoints.IsDraft g c w to (parts_with number was) was.words → checkpoints.IsDraft g c w to (parts_with c.next was) was.words
@@ -112,16 +177,16 @@ module _ {D : Type 0} (g : disk.Ghosts D) (s : Parts D g) (basis : Basis) (is : 
   all_durable none = some_is (saved g (shown_of g s)) (live g (shown_of g s)) (ap (λ (p : List Named). followed (saved g (shown_of g s)) p) (sym none) ∙ is.keeps.live)
 
   front : s.pending ≡ [] → IsFront basis (live g (shown_of g s))
-  front none = record { front = basis.events; since = []; split = append-nil basis.events; gives = subst (λ (c : Content). Gives basis.now.checkpoint basis.events c) (all_durable none) is.keeps.gives.now }
+  front none = record { front = basis.events; since = []; split = append-nil basis.events; gives = subst (λ (c : Content). Gives basis.now.checkpoint basis.base basis.events c) (all_durable none) is.keeps.gives.now }
 
   -- what a freeze leaves
   module _ (c : Checkpointer D g) (w : pool.ShownPool D) (same : SameMap (pools.live g s.detector.words) (pools.live g w)) (whole : IsWhole g w) (file : w.file ≡ s.detector.words.file) (roots : c.roots ≡ s.checkpointer.roots) where
-    still : devices_of g s.journal w c ≡ (shown_of g s).devices
-    still = λ i. record { journal = (shown_of g s).devices.journal; slots = files.disk_of (file i); root0 = first_of (roots i); root1 = second_of (roots i) }
+    still : devices_of g s.journals w c ≡ (shown_of g s).devices
+    still = λ i. record { journal0 = (shown_of g s).devices.journal0; journal1 = (shown_of g s).devices.journal1; slots = files.disk_of (file i); root0 = first_of (roots i); root1 = second_of (roots i) }
 
-    moved : Moved g basis s.pending s.in_doubt (shown_of g s).devices (devices_of g s.journal w c)
+    moved : Moved g basis s.pending s.in_doubt (shown_of g s).devices (devices_of g s.journals w c)
     moved = subst (λ (d : Devices D). Moved g basis s.pending s.in_doubt (shown_of g s).devices d) (sym still) (record {
-      journal = started g (shown_of g s).devices.journal (HasEvents basis.events s.pending s.in_doubt) is.keeps.journal;
+      journals = journals_still g (shown_of g s).devices (HaveEvents basis s.pending s.in_doubt) is.keeps.journals;
       roots = none_moved g basis (view_of g (shown_of g s)) (saved g (shown_of g s)) (shown_of g s).devices refl is.keeps;
       slots = started g (shown_of g s).devices.slots (HasBothSlots basis) is.keeps.slots;
     })
@@ -129,24 +194,25 @@ module _ {D : Type 0} (g : disk.Ghosts D) (s : Parts D g) (basis : Basis) (is : 
     faithful : AtPresent (IsFaithful g) (over g s.detector w)
     faithful = record { whole = whole; within = λ word. subst (λ (cell : Cell). IsWithin (length s.detector.segments) (length s.detector.sets.sets) cell) (sym (same word)) (is.faithful.within word) }
 
-    freezing : (broken : Bool) → s.pending ≡ [] → checkpoints.IsDraft g c w basis.now.checkpoint (parts_with c.next now) now.words → IsFreezing g (with_frozen g s basis is s.detector c (over g s.detector w) broken) basis
-    freezing broken none draft = record { was = now; content = refl; state = is.state; front = front none; draft = draft }
+    freezing : (counting : ℕ) (broken : Bool) → s.pending ≡ [] → checkpoints.IsDraft g c w basis.now.checkpoint (parts_with c.next now) now.words → IsFreezing g (with_frozen g s basis is s.detector counting c (over g s.detector w) broken) basis
+    freezing counting broken none draft = record { was = now; content = refl; state = is.state; front = front none; draft = draft }
 
-    frozen : (broken : Bool) → s.pending ≡ [] → c.phase ≡ phase.Flushing → c.number ≡ s.checkpointer.number → checkpoints.Stands g c w basis.now.checkpoint basis.now.former
-        → checkpoints.IsDraft g c w basis.now.checkpoint (parts_with c.next now) now.words → Standing g (with_frozen g s basis is s.detector c (over g s.detector w) broken) basis
-    frozen broken none at number stands draft =
+    frozen : (counting : ℕ) (broken : Bool) → s.pending ≡ [] → c.phase ≡ phase.Flushing → c.number ≡ s.checkpointer.number → checkpoints.Stands g c w basis.now.checkpoint basis.now.former
+        → checkpoints.IsDraft g c w basis.now.checkpoint (parts_with c.next now) now.words → Standing g (with_frozen g s basis is s.detector counting c (over g s.detector w) broken) basis
+    frozen counting broken none at number stands draft =
         let was = is.works works in
-        stands_with g s basis is s.detector basis c (over g s.detector w) broken (same_content g s.detector w same) is.spelled faithful is.keeps.gives moved (λ _. record {
+        stands_with g s basis is s.detector counting basis c (over g s.detector w) broken (same_content g s.detector w same) is.spelled faithful is.keeps.gives moved (λ _. record {
           certain = was.certain;
-          one = was.one;
-          journal = was.journal;
+          rests = was.rests;
+          journals = was.journals;
           stands = stands;
           number = number ∙ was.number;
-          progress = subst (λ (p : Phase). IsInProgress g p (with_frozen g s basis is s.detector c (over g s.detector w) broken) basis) (sym at) (freezing broken none draft);
+          counted = was.counted;
+          progress = subst (λ (p : Phase). IsInProgress g p (with_frozen g s basis is s.detector counting c (over g s.detector w) broken) basis) (sym at) (freezing counting broken none draft);
         })
 
     -- a checkpoint has begun, with a detector that is equal to this one
-    pub frozen_as : (was : detect.ShownDetector (pool.ShownPool D)) (broken : Bool) → was ≡ s.detector → s.pending ≡ [] → c.phase ≡ phase.Flushing → c.number ≡ s.checkpointer.number → checkpoints.Stands g c w basis.now.checkpoint basis.now.former
-        → checkpoints.IsDraft g c w basis.now.checkpoint (parts_with c.next now) now.words → Standing g (with_frozen g s basis is was c (over g s.detector w) broken) basis
-    frozen_as was broken is_was none at number stands draft =
-        subst (λ (d : detect.ShownDetector (pool.ShownPool D)). Standing g (with_frozen g s basis is d c (over g s.detector w) broken) basis) (sym is_was) (frozen broken none at number stands draft)
+    pub frozen_as : (was : detect.ShownDetector (pool.ShownPool D)) (counting : ℕ) (broken : Bool) → was ≡ s.detector → s.pending ≡ [] → c.phase ≡ phase.Flushing → c.number ≡ s.checkpointer.number → checkpoints.Stands g c w basis.now.checkpoint basis.now.former
+        → checkpoints.IsDraft g c w basis.now.checkpoint (parts_with c.next now) now.words → Standing g (with_frozen g s basis is was counting c (over g s.detector w) broken) basis
+    frozen_as was counting broken is_was none at number stands draft =
+        subst (λ (d : detect.ShownDetector (pool.ShownPool D)). Standing g (with_frozen g s basis is d counting c (over g s.detector w) broken) basis) (sym is_was) (frozen counting broken none at number stands draft)

@@ -13,10 +13,10 @@ pub mod Recovering
 pub mod Runs
 pub mod Stepping
 pub mod Opening
+pub mod Turning
 pub mod Freezing
-pub mod Replaying
 pub mod Making
-pub mod Telling
+pub mod FullSlots
 pub mod Refusals
 pub mod Loading
 pub mod Offered

@@ -18,7 +18,7 @@ use Rattle.hg_pool.specs.Kept.{IsFaithful, Went}
 use Rattle.hg_pool.specs.Maps as pools
 use Rattle.hg_pool.specs.Shown as pool
 use Rattle.hg_root.specs.Grammar.{SetFits}
-use Rattle.hg_contents.specs.Choices.{Basis}
+use Rattle.hg_images.specs.Choices.{Basis}
 use Rattle.hg_contents.specs.States.{IsLawfulState}
 use Rattle.hg_checkpoint.specs.Phases as checkpoints
 use Rattle.hg_checkpoint.specs.Told.{refusal_of}

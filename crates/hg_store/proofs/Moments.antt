@@ -7,10 +7,14 @@ use Rattle.hg_disk.specs.State.{IsImage}
 use Rattle.hg_disk.specs.Moments.{LeavesOnly}
 use Rattle.hg_disk.specs.declared.disk.Disk as disk
 use Rattle.hg_disk.proofs.Moments.{at_end, left_at_end, may_leave, stays, still}
-use Rattle.hg_contents.specs.Choices.{Basis, GivesDurable, HasBothSlots, HasEitherRoots, HasEvents, Stands}
-use Rattle.hg_contents.specs.Images.{Image}
-use Rattle.hg_contents.specs.Stores as stores
-use Rattle.hg_contents.proofs.Joining.{joint_images}
+use Rattle.hg_images.specs.Choices.{Basis, GivesDurable, HasBothSlots, HasEitherRoots, HaveEvents, Stands}
+use Rattle.hg_images.specs.Images.{Image}
+use Rattle.hg_images.specs.Stores as stores
+use Rattle.hg_journals.specs.Journals.{HaveJournals}
+use Rattle.hg_journals.specs.Pairs as pairs
+use Rattle.hg_journals.specs.declared.pair.JournalPair.{JournalPair}
+use Rattle.hg_journals.proofs.Imaging.{stays as pair_stays}
+use Rattle.hg_images.proofs.Joining.{joint_images}
 use Rattle.hg_checkpoint.specs.Standing.{EachOf}
 use Rattle.hg_store.specs.declared.devices.Devices.{Devices}
 use Rattle.hg_store.specs.Images.{EachImage, read_of, states_of}
@@ -18,19 +22,20 @@ use Rattle.hg_store.specs.Images.{EachImage, read_of, states_of}
 module _ {D : Type 0} (g : disk.Ghosts D) where
   -- From one moment to another each kind of device had this basis.
   pub record Moved (basis : Basis) (pending : List Named) (in_doubt : Bool) (old new : Devices D) : Type 0 where
-    pub journal : LeavesOnly g old.journal new.journal (HasEvents basis.events pending in_doubt)
+    pub journals : pairs.EachImage g old.journal0 new.journal0 old.journal1 new.journal1 (HaveEvents basis pending in_doubt)
     pub roots : EachOf g old.root0 new.root0 old.root1 new.root1 (HasEitherRoots basis)
     pub slots : LeavesOnly g old.slots new.slots (HasBothSlots basis)
 
   module _ (basis : Basis) (pending : List Named) (in_doubt : Bool) (old new : Devices D) (moved : Moved basis pending in_doubt old new) (d live : Content) (gives : GivesDurable basis d) (leads : followed d pending ≡ Some live) where
     pub each_image : EachImage g old new (Stands d live in_doubt)
     each_image = record {
-      journal = (moved.journal.later, moved.journal.has_gone);
+      journal0 = moved.journals.first_goes;
+      journal1 = moved.journals.second_goes;
       slots = (moved.slots.later, moved.slots.has_gone);
       root0 = moved.roots.first_goes;
       root1 = moved.roots.second_goes;
       each = λ image may. joint_images basis pending in_doubt d live image gives leads (record {
-        journal = may_leave g old.journal new.journal (HasEvents basis.events pending in_doubt) image.journal moved.journal may.journal;
+        journals = moved.journals.each image.journal0 image.journal1 may.journal0 may.journal1;
         roots = moved.roots.each image.root0 image.root1 may.root0 may.root1;
         slots = may_leave g old.slots new.slots (HasBothSlots basis) image.slots moved.slots may.slots;
       });
@@ -41,7 +46,7 @@ module _ {D : Type 0} (g : disk.Ghosts D) where
       gives = gives;
       live = leads;
       count = count;
-      journal = at_end g old.journal new.journal (HasEvents basis.events pending in_doubt) moved.journal;
+      journals = λ one other is_one is_other. moved.journals.each one other (left_at_end g old.journal0 new.journal0 one moved.journals.first_goes is_one) (left_at_end g old.journal1 new.journal1 other moved.journals.second_goes is_other);
       roots = λ one other is_one is_other. moved.roots.each one other (left_at_end g old.root0 new.root0 one moved.roots.first_goes is_one) (left_at_end g old.root1 new.root1 other moved.roots.second_goes is_other);
       slots = at_end g old.slots new.slots (HasBothSlots basis) moved.slots;
     }
@@ -54,14 +59,40 @@ module _ {D : Type 0} (g : disk.Ghosts D) where
     each = λ one other may_one may_other. rw same at keeps.roots one other (still g devices.root0 one may_one) (still g devices.root1 other may_other);
   }
 
+  pub journals_still : (devices : Devices D) (P : List ℕ → List ℕ → Type 0) → ((one other : List ℕ) → IsImage (g.state devices.journal0) one → IsImage (g.state devices.journal1) other → P one other)
+      → pairs.EachImage g devices.journal0 devices.journal0 devices.journal1 devices.journal1 P
+  journals_still devices P each = record {
+    first_goes = stays g devices.journal0;
+    second_goes = stays g devices.journal1;
+    each = λ one other may_one may_other. each one other (still g devices.journal0 one may_one) (still g devices.journal1 other may_other);
+  }
+
+  -- what each image of a pair keeps
+  pub kept_images : (pair : JournalPair D g) (base : ℕ) (events : List Named) → pairs.Keeps pair base events → (one other : List ℕ) → IsImage (g.state (pairs.first_of pair)) one → IsImage (g.state (pairs.second_of pair)) other
+      → HaveJournals base events one other
+  kept_images pair base events keeps one other is_one is_other =
+      let first = pairs.first_of pair in
+      let second = pairs.second_of pair in
+      (pair_stays g pair base events keeps).each one other (left_at_end g first first one (stays g first) is_one) (left_at_end g second second other (stays g second) is_other)
+
+  -- the same of more than it is known of
+  pub journals_weaker : (a b c d : D) (P Q : List ℕ → List ℕ → Type 0) → ((one other : List ℕ) → P one other → Q one other) → pairs.EachImage g a b c d P → pairs.EachImage g a b c d Q
+  journals_weaker a b c d P Q implies has = record {
+    first_goes = has.first_goes;
+    second_goes = has.second_goes;
+    each = λ one other may_one may_other. implies one other (has.each one other may_one may_other);
+  }
+
   pub all_still : (devices : Devices D) (P : Image → Type 0) → ((image : Image) → stores.IsLeft (states_of g devices) image → P image) → EachImage g devices devices P
   all_still devices P each = record {
-    journal = stays g devices.journal;
+    journal0 = stays g devices.journal0;
+    journal1 = stays g devices.journal1;
     slots = stays g devices.slots;
     root0 = stays g devices.root0;
     root1 = stays g devices.root1;
     each = λ image may. each image (record {
-      journal = still g devices.journal image.journal may.journal;
+      journal0 = still g devices.journal0 image.journal0 may.journal0;
+      journal1 = still g devices.journal1 image.journal1 may.journal1;
       slots = still g devices.slots image.slots may.slots;
       root0 = still g devices.root0 image.root0 may.root0;
       root1 = still g devices.root1 image.root1 may.root1;
@@ -71,7 +102,8 @@ module _ {D : Type 0} (g : disk.Ghosts D) where
   -- what the devices read is left
   pub read_is_left : ((d : D) → IsImage (g.state d) (g.state d).contents) → (devices : Devices D) → stores.IsLeft (states_of g devices) (read_of g devices)
   read_is_left bytes devices = record {
-    journal = bytes devices.journal;
+    journal0 = bytes devices.journal0;
+    journal1 = bytes devices.journal1;
     slots = bytes devices.slots;
     root0 = bytes devices.root0;
     root1 = bytes devices.root1;

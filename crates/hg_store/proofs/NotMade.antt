@@ -80,13 +80,15 @@ module _ {D : Type 0} (g : disk.Ghosts D) (s : Parts D g) (c : Checkpointer D g)
 
   abbrev by_parts : Checkpointer D g → pool.ShownPool D → Bool → Parts D g
   by_parts x y b = record {
-    journal = s.journal;
+    journals = s.journals;
     detector = over g s.detector y;
     checkpointer = x;
     committed = s.committed;
     frozen = s.frozen;
     pending = s.pending;
     durable = s.durable;
+    counted = s.counted;
+    counting = s.counting;
     is_broken = b;
     in_doubt = s.in_doubt;
   }
@@ -130,7 +132,6 @@ module _ {D : Type 0} (g : disk.Ghosts D) (s : Parts D g) (c : Checkpointer D g)
     committed = refl;
     durable = refl;
     in_doubt = refl;
-    journal = refl;
   }
   done_by T U Lawful Causes to at (Refused r) b works own is may same of = record {
     allowed = allowed T U (shown_of g s) s.checkpointer.is_broken at Lawful Causes (Refused r) works own may;
@@ -142,7 +143,6 @@ module _ {D : Type 0} (g : disk.Ghosts D) (s : Parts D g) (c : Checkpointer D g)
     committed = refl;
     durable = refl;
     in_doubt = refl;
-    journal = refl;
   }
 
   -- what the step answers and leaves

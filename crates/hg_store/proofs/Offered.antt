@@ -1,7 +1,7 @@
 -- A store whose detector was offered an event, by whichever of its calls.
-use Rattle.std.proofs.Common.{◌≡◌, ◌⊎◌, ◌∙◌, ◌+◌, ◌<◌, ◌≤◌, inl, inr, ℕ, List, [], ◌++◌, length, Bool, false, cond, Result, Ok, Err, Some, refl, sym, ap, subst, arith, if◌then◌else◌, ⊎_elim, le-leb}
-use Rattle.std.specs.Prelude.{◌≢◌, IfErr, OnOk}
-use Rattle.std.proofs.lemmas.Bool.{lt-leb}
+use Rattle.std.proofs.Common.{◌≡◌, ◌⊎◌, ◌∙◌, ◌+◌, ◌<◌, ◌≤◌, ◌^◌, inl, inr, ℕ, nat_le, List, [], ◌++◌, length, Bool, true, false, cond, Result, Ok, Err, Some, refl, sym, ap, subst, arith, if◌then◌else◌, ⊎_elim, le-leb}
+use Rattle.std.specs.Prelude.{◌≢◌, IfErr, OnOk, IsTrue}
+use Rattle.std.proofs.lemmas.Bool.{leb-false, lt-leb}
 use Rattle.std.proofs.lemmas.List.{append-nil, length-append}
 use Rattle.hg_model.specs.declared.event.Named.{Named}
 use Rattle.hg_model.specs.declared.verdict.Refusal.{Refusal}
@@ -11,7 +11,9 @@ use Rattle.hg_model.specs.declared.verdict.Verdict.TheVariants as verdicts
 use Rattle.hg_model.specs.declared.verdict.Verdict.TheVariants.{Accept}
 use Rattle.hg_model.specs.Contents.{Content}
 use Rattle.hg_model.specs.Change.{after, followed}
+use Rattle.hg_model.specs.Verdicts as standings
 use Rattle.hg_model.specs.Verdicts.{standing_of, verdict}
+use Rattle.hg_model.proofs.Accepted.{no_cause}
 use Rattle.hg_records.specs.Records.{RecordFits}
 use Rattle.hg_cells.specs.Words as cells
 use Rattle.hg_detect.specs.Answering.{Applies, done, is_accepted}
@@ -21,23 +23,25 @@ use Rattle.hg_detect.specs.declared.detector.Answer.{Answer}
 use Rattle.hg_detect.specs.declared.detector.Answer.TheVariants.{Accepted, Duplicate}
 use Rattle.hg_disk.specs.State.{IsImage}
 use Rattle.hg_disk.specs.declared.disk.Disk as disk
+use Rattle.hg_gate.specs.declared.based.TheConstants.{MAX_BASE}
 use Rattle.hg_journal.specs.Journal as journals
+use Rattle.hg_journals.specs.Pairs as pairs
 use Rattle.hg_pool.specs.Answers.{IsFull, IsTrueCause}
 use Rattle.hg_pool.specs.Maps as pools
 use Rattle.hg_pool.specs.Shown as pool
-use Rattle.hg_contents.specs.Choices.{Basis}
+use Rattle.hg_images.specs.Choices.{Basis}
 use Rattle.hg_recovery.specs.Answers.{failed_in}
 use Rattle.hg_store.specs.Images.{FailuresBecome, failures_of}
 use Rattle.hg_store.proofs.Refusing.{rules_call_nothing}
 use Rattle.hg_store.specs.Kept.{IsSound, Parts, Standing, shown_of}
 use Rattle.hg_store.specs.Offers.{IsOffered}
-use Rattle.hg_store.specs.Shown.{ShownStore, live}
-use Rattle.hg_store.specs.Steps.{ByVerdict, ContentOffered, IsAnsweredWhenFull, IsOfRoom, IsTaken, OfferDone, if_accepted}
-use Rattle.hg_store.specs.Store.{StandMeanwhile}
+use Rattle.hg_store.specs.Shown.{HasCounted, ShownStore, live, words}
+use Rattle.hg_store.specs.Steps.{ByVerdict, ContentOffered, HasRoom, IsAnsweredWhenFull, IsOfRoom, IsRefusedWhenFull, IsTaken, OfferDone, if_accepted}
+use Rattle.hg_store.specs.Store.{HasItsEvents, StandMeanwhile}
 use Rattle.hg_store.specs.declared.store.TheConstants.{MOST_PENDING}
 use Rattle.hg_store.proofs.Going as going
 use Rattle.hg_store.proofs.Offering.{accepted, followed_one, is_full, not_broken, of_room, reads_true, refused}
-use Rattle.hg_store.proofs.Replaying.{none_failed, words_failed}
+use Rattle.hg_recovery.proofs.Telling.{none_failed, words_failed}
 use Rattle.hg_store.proofs.Staying.{works_on}
 
 -- the rules accept the event, or they do not
@@ -87,18 +91,20 @@ with_room Accept may pending answer few room by =
 -- the parts of a store after it
 abbrev pub taking : {D : Type 0} (g : disk.Ghosts D) → Parts D g → detect.ShownDetector (pool.ShownPool D) → List Named → Bool → Parts D g
 taking g s d pending broken = record {
-  journal = s.journal;
+  journals = s.journals;
   detector = d;
   checkpointer = s.checkpointer;
   committed = s.committed;
   frozen = s.frozen;
   pending = pending;
   durable = s.durable;
+  counted = s.counted;
+  counting = s.counting;
   is_broken = broken;
   in_doubt = s.in_doubt;
 }
 
-module _ {D : Type 0} (g : disk.Ghosts D) (bytes : (d : D) → IsImage (g.state d) (g.state d).contents) (s : Parts D g) (room : ℕ) (sound : IsSound g s room) (works : s.is_broken ≡ false) (few : length s.pending < MOST_PENDING)
+module _ {D : Type 0} (g : disk.Ghosts D) (bytes : (d : D) → IsImage (g.state d) (g.state d).contents) (s : Parts D g) (room : ℕ) (sound : IsSound g s room) (works : s.is_broken ≡ false) (few : length s.pending < MOST_PENDING) (fit : pairs.last_of s.journals + length s.pending < MAX_BASE)
     (d : detect.ShownDetector (pool.ShownPool D)) (n : Named) (answer : Result Answer Refusal) (fits : RecordFits n) (is : IsOffered g s.detector n answer d)
     (pending : List Named) (more : pending ≡ s.pending ++ if_accepted n answer) (broken : Bool) (told : broken ≡ pools.is_broken d.words) where
   -- the rules accept the event
@@ -115,13 +121,15 @@ module _ {D : Type 0} (g : disk.Ghosts D) (bytes : (d : D) → IsImage (g.state 
   -- where the rules do not accept the event, the parts stay
   stays : (Admits → ⊥) → taking g s d pending broken ≡ s
   stays never = λ i. record {
-    journal = s.journal;
+    journals = s.journals;
     detector = is.same never i;
     checkpointer = s.checkpointer;
     committed = s.committed;
     frozen = s.frozen;
     pending = (more ∙ ap (λ (l : List Named). s.pending ++ l) (none_added _ _ n answer is.answered never) ∙ append-nil s.pending) i;
     durable = s.durable;
+    counted = s.counted;
+    counting = s.counting;
     is_broken = (told ∙ ap (λ (x : detect.ShownDetector (pool.ShownPool D)). pools.is_broken x.words) (is.same never) ∙ sound.words works ∙ sym works) i;
     in_doubt = s.in_doubt;
   }
@@ -159,7 +167,9 @@ module _ {D : Type 0} (g : disk.Ghosts D) (bytes : (d : D) → IsImage (g.state 
     lawful = is.lawful;
     few = omega (arith, few, ap (λ (l : List Named). length l) more, length-append s.pending (if_accepted n answer), few_added n answer);
     room = least;
-    journal = λ _. sound.journal works;
+    journals = λ _. sound.journals works;
+    fits = λ _. omega (arith, fit, ap (λ (l : List Named). length l) more, length-append s.pending (if_accepted n answer), few_added n answer);
+    counting = sound.counting;
     words = λ w. sym told ∙ w;
     checkpointer = λ _. sound.checkpointer works;
     sealed = λ rooting. is.went.sealed (sound.sealed rooting);
@@ -180,7 +190,7 @@ module _ {D : Type 0} (g : disk.Ghosts D) (bytes : (d : D) → IsImage (g.state 
     answer = subst (λ (b : Bool). cond b (answer ≡ Err refusal.Broken) (ByVerdict (verdict (standing_of (live g (shown_of g s))) n) (length s.pending) answer)) (sym works)
         (with_room (verdict (standing_of (live g (shown_of g s))) n) (IsTrueCause d.words) (length s.pending) answer few of_room_then is.answered);
     pending = more;
-    same = record { journal = refl; root0 = refl; root1 = refl; committed = refl; frozen = refl; durable = refl; progress = refl; in_doubt = refl };
+    same = record { journals = record { journal0 = refl; journal1 = refl; turns = refl }; counted = refl; root0 = refl; root1 = refl; committed = refl; frozen = refl; durable = refl; progress = refl; in_doubt = refl };
     works = works_ok answer (λ other. told ∙ still_works other);
     untouched = λ never. ap (λ (p : Parts D g). shown_of g p) (stays (λ admits. never (record { works = works; accepted = admits; room = few })));
     breaks = λ other. told ∙ still_works other ∙ sym works;
@@ -203,48 +213,83 @@ module _ {D : Type 0} (g : disk.Ghosts D) (bytes : (d : D) → IsImage (g.state 
   pub images : (basis : Basis) → Standing g s basis → StandMeanwhile g (shown_of g s) (shown_of g (taking g s d pending broken)) s.in_doubt
   images basis k = going.images g bytes s basis k works d.words is.went
 
-module _ {D : Type 0} (g : disk.Ghosts D) (s : ShownStore D) (n : Named) (result : Result Answer Refusal) (works : s.is_broken ≡ false) (full : MOST_PENDING ≤ length s.pending) (by : IsAnsweredWhenFull g s n result) where
-  nothing_joins : (v : Verdict) → ByVerdict v MOST_PENDING result → if_accepted n result ≡ []
-  nothing_joins Accept told = ap (λ (x : Result Answer Refusal). if_accepted n x) told
+-- what the test for room tells
+pub no_room : {A : Type 0} (b : Bool) → b ≡ false → IsTrue b → A
+no_room b is it = absurd (cc (sym is ∙ it))
+
+-- before an event that is accepted there are fewer than 2^58
+few_events : (s : standings.Standing) (n : Named) → verdict s n ≡ Accept → s.events < 2 ^ 58
+few_events s n accepts = leb-false (2 ^ 58) s.events (no_cause s n accepts).1.1.1.1.1.1.1.1.1.1.1.1.1.1.1.1.0
+
+-- an event that the rules accept is refused where there is no room for it
+when_full : (n : Named) (full : Bool) → if_accepted n (cond full (Err refusal.FullPending) (Err refusal.Damaged)) ≡ []
+when_full n true = refl
+when_full n false = refl
+
+no_call_when_full : (full : Bool) (failures : ℕ) → journals.failed_after {T = Answer} (cond full (Err refusal.FullPending) (Err refusal.Damaged)) failures ≡ failures
+no_call_when_full true failures = refl
+no_call_when_full false failures = refl
+
+of_room_when_full : (full : Bool) (result : Result Answer Refusal) → result ≡ cond full (Err refusal.FullPending) (Err refusal.Damaged)
+    → cond full (result ≡ Err refusal.FullPending) ((result ≡ Ok Accepted) ⊎ ((r : Refusal) × (result ≡ Err r) × IsOfRoom r))
+of_room_when_full true result told = told
+of_room_when_full false result told = inr (refusal.Damaged, told, inr (inr (inr (inl refl))))
+
+full_slots_when_full : {A : Type 0} (full : Bool) → ◌≡◌ {A = Result Answer Refusal} (cond full (Err refusal.FullPending) (Err refusal.Damaged)) (Err refusal.FullSlots) → A
+full_slots_when_full true told = absurd (cc told)
+full_slots_when_full false told = absurd (cc told)
+
+module _ {D : Type 0} (g : disk.Ghosts D) (s : ShownStore D) (n : Named) (result : Result Answer Refusal) (works : s.is_broken ≡ false) (never : HasRoom s → ⊥) (by : IsAnsweredWhenFull g s n result) where
+  nothing_joins : (v : Verdict) → IsRefusedWhenFull v (length s.pending) result → if_accepted n result ≡ []
+  nothing_joins Accept told = ap (λ (x : Result Answer Refusal). if_accepted n x) told ∙ when_full n (nat_le MOST_PENDING (length s.pending))
   nothing_joins (verdicts.Duplicate k) told = ap (λ (x : Result Answer Refusal). if_accepted n x) told
   nothing_joins (verdicts.Refuse r) told = ap (λ (x : Result Answer Refusal). if_accepted n x) told
 
-  no_call : (v : Verdict) → verdict (standing_of (live g s)) n ≡ v → ByVerdict v MOST_PENDING result → (failures : ℕ) → journals.failed_after result failures ≡ failures
-  no_call Accept is told failures = ap (λ (x : Result Answer Refusal). journals.failed_after x failures) told
+  no_call : (v : Verdict) → verdict (standing_of (live g s)) n ≡ v → IsRefusedWhenFull v (length s.pending) result → (failures : ℕ) → journals.failed_after result failures ≡ failures
+  no_call Accept is told failures = ap (λ (x : Result Answer Refusal). journals.failed_after x failures) told ∙ no_call_when_full (nat_le MOST_PENDING (length s.pending)) failures
   no_call (verdicts.Duplicate k) is told failures = ap (λ (x : Result Answer Refusal). journals.failed_after x failures) told
   no_call (verdicts.Refuse r) is told failures = ap (λ (x : Result Answer Refusal). journals.failed_after x failures) told ∙ rules_call_nothing (standing_of (live g s)) n r failures is
 
-  at_full : (v : Verdict) → ByVerdict v MOST_PENDING result → ByVerdict v (length s.pending) result
-  at_full Accept told =
-      subst (λ (b : Bool). cond b (result ≡ Err refusal.FullPending) ((result ≡ Ok Accepted) ⊎ ((r : Refusal) × (result ≡ Err r) × IsOfRoom r))) (sym (le-leb MOST_PENDING (length s.pending) full)) told
+  at_full : (v : Verdict) → IsRefusedWhenFull v (length s.pending) result → ByVerdict v (length s.pending) result
+  at_full Accept told = of_room_when_full (nat_le MOST_PENDING (length s.pending)) result told
   at_full (verdicts.Duplicate k) told = told
   at_full (verdicts.Refuse r) told = told
 
-  not_taken : {A : Type 0} → IsTaken g s n → A
-  not_taken taken = absurd (omega (arith, full, taken.room))
+  -- slots are never told to be lacking
+  no_slots : {A : Type 0} (v : Verdict) → v ≡ Accept → IsRefusedWhenFull v (length s.pending) result → result ≡ Err refusal.FullSlots → A
+  no_slots Accept is told slots = full_slots_when_full (nat_le MOST_PENDING (length s.pending)) (sym told ∙ slots)
+  no_slots (verdicts.Duplicate k) is told slots = absurd (cc is)
+  no_slots (verdicts.Refuse r) is told slots = absurd (cc is)
 
-  -- a store with as many pending events as may be, where an event was offered
-  pub full_is_done : OfferDone g s s n result
-  full_is_done = record {
+  -- a store without room for one more pending event, where an event was offered
+  pub full_is_done : pools.is_broken (words s) ≡ false → OfferDone g s s n result
+  full_is_done file = record {
     answer = subst (λ (b : Bool). cond b (result ≡ Err refusal.Broken) (ByVerdict (verdict (standing_of (live g s)) n) (length s.pending) result)) (sym works) (at_full _ by);
     pending = sym (ap (λ (l : List Named). s.pending ++ l) (nothing_joins _ by) ∙ append-nil s.pending);
-    same = record { journal = refl; root0 = refl; root1 = refl; committed = refl; frozen = refl; durable = refl; progress = refl; in_doubt = refl };
+    same = record { journals = record { journal0 = refl; journal1 = refl; turns = refl }; counted = refl; root0 = refl; root1 = refl; committed = refl; frozen = refl; durable = refl; progress = refl; in_doubt = refl };
     works = works_then result;
     untouched = λ _. refl;
     breaks = λ _. refl;
-    by_file = λ taken. not_taken taken;
-    full = λ taken _. not_taken taken;
+    by_file = λ _. works ∙ sym file;
+    full = λ taken told. no_slots _ taken.accepted by told;
   }
     where
       works_then : (a : Result Answer Refusal) → OnOk a (s.is_broken ≡ false)
       works_then (Ok v) = works
       works_then (Err r) = tt
 
-  pub full_is_offered : ContentOffered g s s n result
-  full_is_offered = record {
+  -- over honest devices the journals have a number for each event that the rules accept
+  not_taken : {A : Type 0} → HasItsEvents g s → HasCounted g s → IsTaken g s n → A
+  not_taken events counted taken =
+      let few = few_events (standing_of (live g s)) n taken.accepted in
+      let last = events.last in
+      absurd (never (record { few = taken.room; fits = omega (arith, few, last, counted) }))
+
+  pub full_is_offered : HasItsEvents g s → HasCounted g s → ContentOffered g s s n result
+  full_is_offered events counted = record {
     leads = ap (λ (l : List Named). followed (live g s) l) (nothing_joins _ by);
-    sets = λ taken. not_taken taken;
-    undamaged = λ taken. not_taken taken;
+    sets = λ taken. not_taken events counted taken;
+    undamaged = λ taken. not_taken events counted taken;
   }
 
   pub full_calls_nothing : FailuresBecome g s.devices s.devices (journals.failed_after result)

@@ -24,7 +24,7 @@ use Rattle.hg_pool.specs.Kept.{IsFaithful, Went}
 use Rattle.hg_pool.specs.OfWords.{ReadsTrue}
 use Rattle.hg_pool.specs.Maps as pools
 use Rattle.hg_pool.specs.Shown as pool
-use Rattle.hg_contents.specs.Choices.{Basis}
+use Rattle.hg_images.specs.Choices.{Basis}
 use Rattle.hg_contents.specs.States.{IsLawfulState}
 use Rattle.hg_contents.proofs.Following.{followed_append}
 use Rattle.hg_contents.proofs.lawful.Sharing.{live_known}

@@ -1,7 +1,9 @@
 -- A store that is recovered: what its devices leave meanwhile, and the content that it has.
 use Rattle.std.proofs.Common.{◌≡◌, ◌∙◌, inl, inr, ◌+◌, ℕ, List, get_or, All, Option, Some, None, Result, Ok, Err, refl, sym, ap, subst, arith}
 use Rattle.std.specs.Prelude.{IfSome}
+use Rattle.hg_model.specs.declared.event.Named.{Named}
 use Rattle.hg_model.specs.Contents.{Content}
+use Rattle.hg_contents.specs.Images.{start_of}
 use Rattle.hg_model.specs.declared.verdict.Refusal.{Refusal}
 use Rattle.hg_detect.specs.Shown as detect
 use Rattle.hg_disk.specs.Calls.{CallsAtMost}
@@ -10,7 +12,11 @@ use Rattle.hg_disk.specs.Moments.{LeavesOnly}
 use Rattle.hg_disk.specs.declared.disk.Disk as disk
 use Rattle.hg_disk.proofs.Moments.{at_end, may_leave, stays, still}
 use Rattle.hg_disk.proofs.Staying.{same, then}
-use Rattle.hg_journal.specs.Journal.{IsJournal}
+use Rattle.hg_journals.specs.Journals.{HaveJournals}
+use Rattle.hg_journals.specs.Pairs as journals
+use Rattle.hg_journals.specs.declared.pair.JournalPair.{JournalPair}
+use Rattle.hg_journals.proofs.Imaging.{reads}
+use Rattle.hg_journals.proofs.Keeping.{once}
 use Rattle.hg_pages.specs.Slots.{HasBytes}
 use Rattle.hg_pool.specs.Kept.{Went}
 use Rattle.hg_pool.specs.Maps as pools
@@ -20,8 +26,8 @@ use Rattle.hg_root.specs.Checkpoints.{Checkpoint, HasCheckpoint}
 use Rattle.hg_root.specs.Finding.{WasRead}
 use Rattle.hg_root.specs.declared.pair.RootPair.{RootPair}
 use Rattle.hg_contents.specs.Choices.{HasSlots}
-use Rattle.hg_contents.specs.Images.{HasContent, Image, LeadFrom}
-use Rattle.hg_contents.specs.Stores.{IsLeft}
+use Rattle.hg_images.specs.Images.{HasContent, Image, LeadFrom}
+use Rattle.hg_images.specs.Stores.{IsLeft}
 use Rattle.hg_store.specs.declared.devices.Devices.{Devices}
 use Rattle.hg_store.specs.Images.{EachImage, EachReadsOrFailed, FilesReadSame, FilesWereRead, HasContentOf, HasContentOfOne, IsOnlyRead, KeepsCheckpoint, KeepsFiles, KeepsSlot, KeepsSlots, ReadsSlots, Recovers, read_of, states_of}
 use Rattle.hg_recovery.specs.Answers.{CountedBy}
@@ -40,6 +46,13 @@ one_image s image is left =
     left'.clean refl
 
 module _ {D : Type 0} (g : disk.Ghosts D) where
+  -- what a pair keeps is what its disks had, which were only read
+  pub kept_of : (pair : JournalPair D g) (base : ℕ) (events : List Named) → journals.Keeps pair base events → (journal0 journal1 : D) → g.state (journals.first_of pair) ≡ g.state journal0
+      → g.state (journals.second_of pair) ≡ g.state journal1 → HaveJournals base events (g.state journal0).contents (g.state journal1).contents
+  kept_of pair base events keeps journal0 journal1 first second =
+      subst (λ (s : DiskState). HaveJournals base events s.contents (g.state journal1).contents) first
+      (subst (λ (s : DiskState). HaveJournals base events (g.state (journals.first_of pair)).contents s.contents) second (reads g pair base events keeps))
+
   -- a call between equal disks
   pub moved : (a b c d : D) (P : List ℕ → Type 0) → b ≡ a → d ≡ c → LeavesOnly g b d P → LeavesOnly g a c P
   moved a b c d P one two leaves = subst (λ (x : D). LeavesOnly g x c P) one (subst (λ (y : D). LeavesOnly g b y P) two leaves)
@@ -52,37 +65,43 @@ module _ {D : Type 0} (g : disk.Ghosts D) where
     -- the devices were read
     pub read_alone : Stay g old new → EachImage g old new (HasContentOf (read_of g old))
     read_alone stay = record {
-      journal = (stay.journal.later, stay.journal.has_gone);
+      journal0 = (stay.journal0.later, stay.journal0.has_gone);
+      journal1 = (stay.journal1.later, stay.journal1.has_gone);
       slots = (stay.slots.later, stay.slots.has_gone);
       root0 = (stay.root0.later, stay.root0.has_gone);
       root1 = (stay.root1.later, stay.root1.has_gone);
       each = λ image may c has.
-          let journal : image.journal ≡ (g.state old.journal).contents =
-          one_image (g.state old.journal) image.journal at.journal (may_leave g old.journal new.journal (IsImage (g.state old.journal)) image.journal stay.journal may.journal) in
+          let journal0 : image.journal0 ≡ (g.state old.journal0).contents =
+          one_image (g.state old.journal0) image.journal0 at.journal0 (may_leave g old.journal0 new.journal0 (IsImage (g.state old.journal0)) image.journal0 stay.journal0 may.journal0) in
+          let journal1 : image.journal1 ≡ (g.state old.journal1).contents =
+          one_image (g.state old.journal1) image.journal1 at.journal1 (may_leave g old.journal1 new.journal1 (IsImage (g.state old.journal1)) image.journal1 stay.journal1 may.journal1) in
           let slots : image.slots ≡ (g.state old.slots).contents =
           one_image (g.state old.slots) image.slots at.slots (may_leave g old.slots new.slots (IsImage (g.state old.slots)) image.slots stay.slots may.slots) in
           let root0 : image.root0 ≡ (g.state old.root0).contents =
           one_image (g.state old.root0) image.root0 at.root0 (may_leave g old.root0 new.root0 (IsImage (g.state old.root0)) image.root0 stay.root0 may.root0) in
           let root1 : image.root1 ≡ (g.state old.root1).contents =
           one_image (g.state old.root1) image.root1 at.root1 (may_leave g old.root1 new.root1 (IsImage (g.state old.root1)) image.root1 stay.root1 may.root1) in
-          let same : read_of g old ≡ image = λ i. record { journal = sym journal i; slots = sym slots i; root0 = sym root0 i; root1 = sym root1 i } in
+          let same : read_of g old ≡ image = λ i. record { journal0 = sym journal0 i; journal1 = sym journal1 i; slots = sym slots i; root0 = sym root0 i; root1 = sym root1 i } in
           subst (λ (x : Image). HasContent x c) same has;
     }
 
     -- the pages of a checkpoint were read, and slots that it does not name were written
     pub with_pages : (most number : ℕ) (d : detect.ShownDetector (pool.ShownPool D)) (roots : RootPair D)
         → (rooted : IsRooted g most (g.state old.root0).contents (g.state old.root1).contents (g.state old.slots).contents d roots number)
-        → LeavesOnly g old.journal new.journal (IsImage (g.state old.journal)) → LeavesOnly g old.slots new.slots (HasSlots rooted.now)
+        → LeavesOnly g old.journal0 new.journal0 (IsImage (g.state old.journal0)) → LeavesOnly g old.journal1 new.journal1 (IsImage (g.state old.journal1)) → LeavesOnly g old.slots new.slots (HasSlots rooted.now)
         → LeavesOnly g old.root0 new.root0 (IsImage (g.state old.root0)) → LeavesOnly g old.root1 new.root1 (IsImage (g.state old.root1))
         → EachImage g old new (HasContentOf (read_of g old))
-    with_pages most number d roots rooted journal slots root0 root1 = record {
-      journal = (journal.later, journal.has_gone);
+    with_pages most number d roots rooted journal0 journal1 slots root0 root1 = record {
+      journal0 = (journal0.later, journal0.has_gone);
+      journal1 = (journal1.later, journal1.has_gone);
       slots = (slots.later, slots.has_gone);
       root0 = (root0.later, root0.has_gone);
       root1 = (root1.later, root1.has_gone);
       each = λ image may c has.
-          let same_journal : (g.state old.journal).contents ≡ image.journal =
-          sym (one_image (g.state old.journal) image.journal at.journal (may_leave g old.journal new.journal (IsImage (g.state old.journal)) image.journal journal may.journal)) in
+          let same_journal0 : (g.state old.journal0).contents ≡ image.journal0 =
+          sym (one_image (g.state old.journal0) image.journal0 at.journal0 (may_leave g old.journal0 new.journal0 (IsImage (g.state old.journal0)) image.journal0 journal0 may.journal0)) in
+          let same_journal1 : (g.state old.journal1).contents ≡ image.journal1 =
+          sym (one_image (g.state old.journal1) image.journal1 at.journal1 (may_leave g old.journal1 new.journal1 (IsImage (g.state old.journal1)) image.journal1 journal1 may.journal1)) in
           let same_root0 : (g.state old.root0).contents ≡ image.root0 =
           sym (one_image (g.state old.root0) image.root0 at.root0 (may_leave g old.root0 new.root0 (IsImage (g.state old.root0)) image.root0 root0 may.root0)) in
           let same_root1 : (g.state old.root1).contents ≡ image.root1 =
@@ -92,16 +111,18 @@ module _ {D : Type 0} (g : disk.Ghosts D) where
             checkpoint = rooted.now.checkpoint;
             stands = subst (λ (l : List ℕ). HasCheckpoint rooted.now.checkpoint l image.root1 image.slots) same_root0
                 (subst (λ (l : List ℕ). HasCheckpoint rooted.now.checkpoint (g.state old.root0).contents l image.slots) same_root1 before);
+            base = has.base;
             events = has.events;
-            journal = subst (λ (l : List ℕ). IsJournal l has.events) same_journal has.journal;
-            gives = subst (λ (s : Content). LeadFrom s has.events c) (rooted.only has.checkpoint has.stands) has.gives;
+            journals = subst (λ (l : List ℕ). HaveJournals has.base has.events l image.journal1) same_journal0 (subst (λ (l : List ℕ). HaveJournals has.base has.events (g.state old.journal0).contents l) same_journal1 has.journals);
+            gives = subst (λ (s : Content). LeadFrom s has.base has.events c) (rooted.only has.checkpoint has.stands) has.gives;
           };
     }
 
   -- each device has what it read, so it leaves that
   pub left_self : (old mid : Devices D) → ((d : D) → IsImage (g.state d) (g.state d).contents) → Settled g old mid → IsLeft (states_of g old) (read_of g mid)
   left_self old mid bytes at = record {
-    journal = subst (λ (l : List ℕ). IsImage (g.state old.journal) l) (sym (ap (λ (s : DiskState). s.contents) at.journal)) (bytes old.journal);
+    journal0 = subst (λ (l : List ℕ). IsImage (g.state old.journal0) l) (sym (ap (λ (s : DiskState). s.contents) at.journal0)) (bytes old.journal0);
+    journal1 = subst (λ (l : List ℕ). IsImage (g.state old.journal1) l) (sym (ap (λ (s : DiskState). s.contents) at.journal1)) (bytes old.journal1);
     slots = subst (λ (l : List ℕ). IsImage (g.state old.slots) l) (sym (ap (λ (s : DiskState). s.contents) at.slots)) (bytes old.slots);
     root0 = subst (λ (l : List ℕ). IsImage (g.state old.root0) l) (sym (ap (λ (s : DiskState). s.contents) at.root0)) (bytes old.root0);
     root1 = subst (λ (l : List ℕ). IsImage (g.state old.root1) l) (sym (ap (λ (s : DiskState). s.contents) at.root1)) (bytes old.root1);
@@ -110,7 +131,8 @@ module _ {D : Type 0} (g : disk.Ghosts D) where
   -- and reads what it read
   pub reads_same : (old mid : Devices D) → Settled g old mid → read_of g mid ≡ read_of g old
   reads_same old mid at = λ i. record {
-    journal = ap (λ (s : DiskState). s.contents) at.journal i;
+    journal0 = ap (λ (s : DiskState). s.contents) at.journal0 i;
+    journal1 = ap (λ (s : DiskState). s.contents) at.journal1 i;
     slots = ap (λ (s : DiskState). s.contents) at.slots i;
     root0 = ap (λ (s : DiskState). s.contents) at.root0 i;
     root1 = ap (λ (s : DiskState). s.contents) at.root1 i;
@@ -122,12 +144,14 @@ module _ {D : Type 0} (g : disk.Ghosts D) where
 
   pub stay_images : (old new : Devices D) → Stay g old new → EachImage g old new (HasContentOfOne g old)
   stay_images old new stay = record {
-    journal = (stay.journal.later, stay.journal.has_gone);
+    journal0 = (stay.journal0.later, stay.journal0.has_gone);
+    journal1 = (stay.journal1.later, stay.journal1.has_gone);
     slots = (stay.slots.later, stay.slots.has_gone);
     root0 = (stay.root0.later, stay.root0.has_gone);
     root1 = (stay.root1.later, stay.root1.has_gone);
     each = λ image may. of_left old image (record {
-      journal = may_leave g old.journal new.journal (IsImage (g.state old.journal)) image.journal stay.journal may.journal;
+      journal0 = may_leave g old.journal0 new.journal0 (IsImage (g.state old.journal0)) image.journal0 stay.journal0 may.journal0;
+      journal1 = may_leave g old.journal1 new.journal1 (IsImage (g.state old.journal1)) image.journal1 stay.journal1 may.journal1;
       slots = may_leave g old.slots new.slots (IsImage (g.state old.slots)) image.slots stay.slots may.slots;
       root0 = may_leave g old.root0 new.root0 (IsImage (g.state old.root0)) image.root0 stay.root0 may.root0;
       root1 = may_leave g old.root1 new.root1 (IsImage (g.state old.root1)) image.root1 stay.root1 may.root1;
@@ -140,12 +164,14 @@ module _ {D : Type 0} (g : disk.Ghosts D) where
     synced = new;
     before = stay_images old new stay;
     behind = record {
-      journal = stays g new.journal;
+      journal0 = stays g new.journal0;
+      journal1 = stays g new.journal1;
       slots = stays g new.slots;
       root0 = stays g new.root0;
       root1 = stays g new.root1;
       each = λ image may. of_left old image (record {
-        journal = at_end g old.journal new.journal (IsImage (g.state old.journal)) stay.journal image.journal (still g new.journal image.journal may.journal);
+        journal0 = at_end g old.journal0 new.journal0 (IsImage (g.state old.journal0)) stay.journal0 image.journal0 (still g new.journal0 image.journal0 may.journal0);
+        journal1 = at_end g old.journal1 new.journal1 (IsImage (g.state old.journal1)) stay.journal1 image.journal1 (still g new.journal1 image.journal1 may.journal1);
         slots = at_end g old.slots new.slots (IsImage (g.state old.slots)) stay.slots image.slots (still g new.slots image.slots may.slots);
         root0 = at_end g old.root0 new.root0 (IsImage (g.state old.root0)) stay.root0 image.root0 (still g new.root0 image.root0 may.root0);
         root1 = at_end g old.root1 new.root1 (IsImage (g.state old.root1)) stay.root1 image.root1 (still g new.root1 image.root1 may.root1);
@@ -158,13 +184,22 @@ module _ {D : Type 0} (g : disk.Ghosts D) where
     synced = mid;
     before = stay_images old mid stay;
     behind = record {
-      journal = behind.journal;
+      journal0 = behind.journal0;
+      journal1 = behind.journal1;
       slots = behind.slots;
       root0 = behind.root0;
       root1 = behind.root1;
       each = λ image may. (read_of g mid, left_self old mid bytes at, behind.each image may);
     };
   }
+
+-- The content of the devices, by what their journals keep and by their newest checkpoint.
+pub gives_of : (image : Image) (c : Content) (base : ℕ) (events : List Named) (start : Content) → (has : HasContent image c) → HaveJournals base events image.journal0 image.journal1 → start_of has.checkpoint ≡ start
+    → LeadFrom start base events c
+gives_of image c base events start has keeps is =
+    let same = once image.journal0 image.journal1 has.base base has.events events has.journals keeps in
+    subst (λ (s : Content). LeadFrom s base events c) is
+    (subst (λ (es : List Named). LeadFrom (start_of has.checkpoint) base es c) same.1 (subst (λ (n : ℕ). LeadFrom (start_of has.checkpoint) n has.events c) same.0 has.gives))
 
 -- What a recovery keeps of the files
 module _ {D : Type 0} (g : disk.Ghosts D) where
@@ -208,7 +243,8 @@ module _ {D : Type 0} (g : disk.Ghosts D) where
   -- a sync failed, or all succeeded and nothing was called since
   pub files_synced : (old new : Devices D) → Stay g old new → EachReadsOrFailed g old new → KeepsFiles g old new
   files_synced old new stay each = record {
-    journal = record { bytes = each.journal; images = stay.journal };
+    journal0 = record { bytes = each.journal0; images = stay.journal0 };
+    journal1 = record { bytes = each.journal1; images = stay.journal1 };
     root0 = record { bytes = each.root0; images = stay.root0 };
     root1 = record { bytes = each.root1; images = stay.root1 };
   }
@@ -220,7 +256,8 @@ module _ {D : Type 0} (g : disk.Ghosts D) where
   module _ (old mid new : Devices D) (at : Settled g old mid) where
     pub same_read : FilesWereRead g mid new → FilesReadSame g old new
     same_read read = record {
-      journal = ap (λ (s : DiskState). s.contents) (read.journal.state ∙ at.journal);
+      journal0 = ap (λ (s : DiskState). s.contents) (read.journal0.state ∙ at.journal0);
+      journal1 = ap (λ (s : DiskState). s.contents) (read.journal1.state ∙ at.journal1);
       root0 = ap (λ (s : DiskState). s.contents) (read.root0.state ∙ at.root0);
       root1 = ap (λ (s : DiskState). s.contents) (read.root1.state ∙ at.root1);
     }
@@ -230,7 +267,8 @@ module _ {D : Type 0} (g : disk.Ghosts D) where
       files_read read =
           let now = same_read read in
           record {
-            journal = record { bytes = inl now.journal; images = then g old.journal mid.journal new.journal stay.journal read.journal.images };
+            journal0 = record { bytes = inl now.journal0; images = then g old.journal0 mid.journal0 new.journal0 stay.journal0 read.journal0.images };
+            journal1 = record { bytes = inl now.journal1; images = then g old.journal1 mid.journal1 new.journal1 stay.journal1 read.journal1.images };
             root0 = record { bytes = inl now.root0; images = then g old.root0 mid.root0 new.root0 stay.root0 read.root0.any_moment };
             root1 = record { bytes = inl now.root1; images = then g old.root1 mid.root1 new.root1 stay.root1 read.root1.any_moment };
           }
@@ -242,7 +280,8 @@ module _ {D : Type 0} (g : disk.Ghosts D) where
 
   pub same_settled : (old mid : Devices D) → Settled g old mid → FilesReadSame g old mid
   same_settled old mid at = record {
-    journal = ap (λ (s : DiskState). s.contents) at.journal;
+    journal0 = ap (λ (s : DiskState). s.contents) at.journal0;
+    journal1 = ap (λ (s : DiskState). s.contents) at.journal1;
     root0 = ap (λ (s : DiskState). s.contents) at.root0;
     root1 = ap (λ (s : DiskState). s.contents) at.root1;
   }

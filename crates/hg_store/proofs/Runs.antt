@@ -11,9 +11,10 @@ use Rattle.hg_detect.specs.declared.detector.Answer.{Answer}
 use Rattle.hg_disk.specs.declared.disk.Disk as disk
 use Rattle.hg_pool.specs.Maps as pools
 use Rattle.hg_pool.specs.Shown as pool
-use Rattle.hg_contents.specs.Choices.{Stands}
-use Rattle.hg_contents.specs.Images.{Image}
-use Rattle.hg_contents.specs.Runs.{Run, StandsFor, accepted}
+use Rattle.hg_images.specs.Choices.{Stands}
+use Rattle.hg_images.specs.Images.{Image}
+use Rattle.hg_contents.specs.Runs.{Run, accepted}
+use Rattle.hg_images.specs.Runs.{StandsFor}
 use Rattle.hg_contents.proofs.Following.{followed_append}
 use Rattle.hg_checkpoint.specs.declared.cause.Cause.{Cause}
 use Rattle.hg_store.specs.declared.devices.Devices.{Devices}
@@ -26,9 +27,9 @@ use Rattle.hg_store.specs.declared.steps.StepResult.TheVariants as told
 use Rattle.hg_store.specs.Answers.{IsAllowed}
 use Rattle.hg_store.specs.Doing.{ContentDone, StepDone, in_doubt_during}
 use Rattle.hg_store.specs.Images.{EachImage}
-use Rattle.hg_store.specs.Runs.{CommitAnswers, Covered, DriveDone, IfBroken, IsAt, Lawful, Told, before, begins, is_device_fault, run_after, run_of}
+use Rattle.hg_store.specs.Runs.{CommitAnswers, Covered, DriveDone, IfBroken, IsAt, Lawful, RetireAnswers, Told, before, begins, is_device_fault, run_after, run_of}
 use Rattle.hg_store.specs.Shown.{ShownStore, live, saved}
-use Rattle.hg_store.specs.Steps.{CommitDone, ContentOffered, OfferDone, if_accepted}
+use Rattle.hg_store.specs.Steps.{CommitDone, ContentOffered, OfferDone, RetireDone, if_accepted}
 use Rattle.hg_store.specs.Store.{Backs}
 
 -- an image that stands for the contents of a store stands for the run
@@ -53,11 +54,15 @@ refuses s Allowed Causes (Err (Refused r)) (inr is) broken = absurd (cc (sym is.
 
 module _ {D : Type 0} (g : disk.Ghosts D) where
   weaker : (old new : Devices D) (P Q : Image → Type 0) → ((image : Image) → P image → Q image) → EachImage g old new P → EachImage g old new Q
-  weaker old new P Q more all = record { journal = all.journal; slots = all.slots; root0 = all.root0; root1 = all.root1; each = λ image may. more image (all.each image may) }
+  weaker old new P Q more all = record { journal0 = all.journal0; journal1 = all.journal1; slots = all.slots; root0 = all.root0; root1 = all.root1; each = λ image may. more image (all.each image may) }
 
   commit_lawful : (s new : ShownStore D) (result : Result ℕ Refusal) → CommitDone g s new result → CommitAnswers (live g s) s.is_broken result
   commit_lawful s new (Ok count) done = (done.answer.worked, done.answer.answer)
   commit_lawful s new (Err refusal) done = done.answer.answer
+
+  retire_lawful : (s new : ShownStore D) (result : Result Bool Refusal) → RetireDone s new result → RetireAnswers s.is_broken result
+  retire_lawful s new (Ok retired) done = done.answer.worked
+  retire_lawful s new (Err refusal) done = done.answer.answer
 
   module _ (start : Content) where
     is_lawful : (run : Run) (s new : ShownStore D) (step : Step) (result : StepResult) → IsAt g start run s → StepDone g s new step result → Lawful start run s.is_broken step result
@@ -72,6 +77,7 @@ module _ {D : Type 0} (g : disk.Ghosts D) where
     is_lawful run s new step.OpenRoot result at done = (done.0, done.1, refuses s _ _ done.0 done.2.done.allowed)
     is_lawful run s new step.Evict result at done = (done.0, done.1, refuses s _ _ done.0 done.2.allowed)
     is_lawful run s new (step.Load page) result at done = (done.0, done.1, refuses s _ _ done.0 done.2.allowed)
+    is_lawful run s new step.Retire result at done = (done.0, done.1, retire_lawful s new done.0 done.2)
 
     -- the content of a detector that did not change
     saved_same : (s new : ShownStore D) → new.committed ≡ s.committed → saved g s ≡ saved g new
@@ -136,6 +142,7 @@ module _ {D : Type 0} (g : disk.Ghosts D) where
     is_after run s new step.OpenRoot result at done content backed = at_same run s new at done.2.done.committed content.2.live done.2.done.pending done.2.done.in_doubt backed
     is_after run s new step.Evict result at done content backed = at_same run s new at done.2.moves.same.committed content done.2.moves.pending done.2.moves.same.in_doubt backed
     is_after run s new (step.Load page) result at done content backed = at_same run s new at done.2.moves.same.committed content.2.live done.2.moves.pending done.2.moves.same.in_doubt backed
+    is_after run s new step.Retire result at done content backed = at_same run s new at done.2.same.committed content done.2.same.pending done.2.same.in_doubt backed
 
     module _ (s new : ShownStore D) (step : Step) (result : StepResult) where
       begins_more : (told : Told D) → begins (told ++ (s, result) ∷ []) new ≡ begins told s

@@ -19,13 +19,15 @@ module _ {D : Type 0} (g : disk.Ghosts D) where
   -- the parts with another checkpointer and another pool
   abbrev pub called_with : Parts D g → Checkpointer D g → pool.ShownPool D → Parts D g
   called_with s c w = record {
-    journal = s.journal;
+    journals = s.journals;
     detector = over g s.detector w;
     checkpointer = c;
     committed = s.committed;
     frozen = s.frozen;
     pending = s.pending;
     durable = s.durable;
+    counted = s.counted;
+    counting = s.counting;
     is_broken = s.is_broken;
     in_doubt = s.in_doubt;
   }
@@ -52,7 +54,6 @@ nothing_done old new Lawful Causes to (WrongPhase p) same allowed quiet = record
   committed = ap (λ s. s.committed) same;
   durable = ap (λ s. s.durable) same;
   in_doubt = ap (λ s. s.in_doubt) same;
-  journal = ap (λ s. s.devices.journal) same;
 }
 nothing_done old new Lawful Causes to (Refused r) same allowed quiet = record {
   allowed = allowed;
@@ -64,5 +65,4 @@ nothing_done old new Lawful Causes to (Refused r) same allowed quiet = record {
   committed = ap (λ s. s.committed) same;
   durable = ap (λ s. s.durable) same;
   in_doubt = ap (λ s. s.in_doubt) same;
-  journal = ap (λ s. s.devices.journal) same;
 }

@@ -46,12 +46,13 @@ IsAllowed s Lawful Causes (Err (WrongPhase p)) = (s.is_broken ≡ false) × (¬ 
 IsAllowed s Lawful Causes (Err (Refused r)) = ((s.is_broken ≡ true) × (r ≡ cause.Broken)) ⊎ ((s.is_broken ≡ false) × Lawful × Causes r)
 
 -- The causes of a refused freeze: the newest root has the last number; else memory was refused, or fewer slots are free than
--- pages were changed, or a part of the detector has no spelling.
+-- pages were changed, or a part of the detector has no spelling, or a device call of the turn failed.
 abbrev pub IsOfFreezing : {D : Type 0} → ShownStore D → Cause → Type 0
 IsOfFreezing s cause.FullEvents = MOST_CHECKPOINTS ≤ s.progress.number
 IsOfFreezing s cause.OutOfMemory = s.progress.number < MOST_CHECKPOINTS
 IsOfFreezing s cause.FullSlots = (s.progress.number < MOST_CHECKPOINTS) × LacksSlots (words s)
 IsOfFreezing s cause.Damaged = s.progress.number < MOST_CHECKPOINTS
+IsOfFreezing s cause.DeviceFault = s.progress.number < MOST_CHECKPOINTS
 IsOfFreezing s _ = ⊥
 
 -- A failed device call breaks the store. Any other refusal leaves it as it is.

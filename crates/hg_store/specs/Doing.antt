@@ -1,5 +1,5 @@
 -- What each step does and answers.
-use Rattle.std.specs.Prelude.{◌≡◌, ◌≢◌, ◌+◌, ◌<◌, ◌≤◌, ◌^◌, ℕ, [], Bool, true, false, Option, Result, OnOk, OnErr, IfOk}
+use Rattle.std.specs.Prelude.{◌≡◌, ◌≢◌, ◌+◌, ◌<◌, ◌≤◌, ◌^◌, ℕ, [], Bool, true, false, Option, Result, Ok, Err, OnOk, OnErr, IfOk, MatchBool, if◌then◌else◌}
 use Rattle.hg_root.specs.declared.root.TheConstants.{MOST_CHECKPOINTS}
 use Rattle.hg_disk.specs.declared.disk.Disk as disk
 use Rattle.hg_journal.specs.Journal.{failed_after}
@@ -14,12 +14,13 @@ use Rattle.hg_checkpoint.specs.declared.cause.Cause.TheVariants as cause
 use Rattle.hg_checkpoint.specs.declared.phase.Phase.TheVariants as phase
 use Rattle.hg_store.specs.Answers.{IfRefused, IsAllowed, IsOfFreezing, failed_by}
 use Rattle.hg_store.specs.Paging.{ContentLoaded, EvictDone, LoadDone}
-use Rattle.hg_store.specs.Shown.{HasNextNumber, IsFlushed, IsIn, ShownStore, live, phase_of, words}
-use Rattle.hg_store.specs.Steps.{CheckpointDone, CommitDone, ContentOffered, OfferDone}
+use Rattle.hg_store.specs.Shown.{HasNextNumber, IsFlushed, IsIn, ShownStore, after_turn, current, is_turn_due, live, phase_of, words}
+use Rattle.hg_store.specs.Steps.{CheckpointDone, CommitDone, ContentOffered, OfferDone, RetireDone, SameJournals}
 use Rattle.hg_store.specs.Store.{HasOpenedFrozen, StandMeanwhile}
 use Rattle.hg_store.specs.declared.steps.Step.{Step}
 use Rattle.hg_store.specs.declared.steps.Step.TheVariants as step
 use Rattle.hg_store.specs.declared.steps.StepFault.{StepFault}
+use Rattle.hg_store.specs.declared.steps.StepFault.TheVariants.{Refused}
 use Rattle.hg_store.specs.declared.steps.StepResult.{StepResult}
 use Rattle.hg_store.specs.declared.steps.StepResult.TheVariants as told
 use Rattle.hg_store.specs.declared.steps.StorePhase.TheVariants as store
@@ -40,6 +41,7 @@ pub record SameRoots {D : Type 0} (old new : ShownStore D) : Type 0 where
 
 -- the newest checkpoint and the one in progress stay the same
 pub record SameNumbers {D : Type 0} (old new : ShownStore D) : Type 0 where
+  pub counted : new.counted ≡ old.counted
   pub number : new.progress.number ≡ old.progress.number
   pub next : new.progress.next ≡ old.progress.next
   pub head : new.progress.head ≡ old.progress.head
@@ -47,6 +49,10 @@ pub record SameNumbers {D : Type 0} (old new : ShownStore D) : Type 0 where
 -- A checkpoint begins only if no event is pending and none is in progress.
 abbrev pub BeginsWhenIdle : {D : Type 0} → (old new : ShownStore D) → Result (Unit {0}) StepFault → Type 0
 BeginsWhenIdle old new result = CheckpointDone old new (phase_of old ≡ store.Idle) (IsOfFreezing old) phase.Flushing result
+
+-- The newest open root is the one that was opened, or the same as before.
+abbrev pub CountsFrozen : {D : Type 0} → (old new : ShownStore D) → Result ℕ StepFault → Type 0
+CountsFrozen old new result = OnOk result (new.counted ≡ old.frozen.parts.events) × OnErr result (new.counted ≡ old.counted)
 
 -- A page is put by a store that works, in any phase.
 abbrev pub PutsInAnyPhase : {D : Type 0} → (old new : ShownStore D) → Result Put StepFault → Type 0
@@ -68,14 +74,34 @@ WritesWhenPrepared old new result = CheckpointDone old new (IsIn phase.Prepared 
 abbrev pub OpensWhenWritten : {D : Type 0} → (old new : ShownStore D) → Result ℕ StepFault → Type 0
 OpensWhenWritten old new result = CheckpointDone old new (IsIn phase.Written old) IsOfDevice phase.Idle result
 
--- A checkpoint begins, with the number behind that of the newest one. No device is called.
+-- The journals have taken turns if a turn was due, and else they are as they were.
+abbrev pub TakesTurns : {D : Type 0} → (old new : ShownStore D) → Type 0
+TakesTurns old new = MatchBool (is_turn_due old) (new.turns ≡ after_turn old.turns) (new.turns ≡ old.turns × (new.devices ≡ old.devices))
+
+-- the journal that was not the current one
+abbrev pub other_since : {D : Type 0} → (old new : ShownStore D) → D
+other_since old new = if old.turns.is_turned then new.devices.journal1 else new.devices.journal0
+
+-- A turn that was due is taken; or a device call failed, and the store is broken.
+abbrev pub TurnAnswers : {D : Type 0} → (old new : ShownStore D) → Result (Unit {0}) StepFault → Type 0
+TurnAnswers old new (Ok value) = (new.is_broken ≡ false) × TakesTurns old new
+TurnAnswers old new (Err fault) = (fault ≡ Refused cause.DeviceFault) × (new.is_broken ≡ true)
+
+-- The journal that was the current one is not called.
+abbrev pub LeavesCurrent : {D : Type 0} → (old new : ShownStore D) → Type 0
+LeavesCurrent old new = (if old.turns.is_turned then new.devices.journal0 else new.devices.journal1) ≡ current old
+
+-- A checkpoint begins, with the number behind that of the newest one. The spare journal alone is called.
 pub record FreezeDone {D : Type 0} (old new : ShownStore D) (result : Result (Unit {0}) StepFault) : Type 0 where
   pub done : BeginsWhenIdle old new result
-  pub refused : OnErr result (new ≡ old)
   pub last : OnOk result (old.progress.number < MOST_CHECKPOINTS)
   pub number : OnOk result (HasNextNumber old new)
-  pub devices : new.devices ≡ old.devices
   pub frozen : OnOk result (new.frozen ≡ old.detector)
+  pub turned : OnOk result (TakesTurns old new)
+  pub current : LeavesCurrent old new
+  pub counted : new.counted ≡ old.counted
+  pub slots : new.devices.slots ≡ old.devices.slots
+  pub roots : SameRoots old new
 
 -- The page is the first of the waiting ones, with its cells at the freeze. Nothing changes.
 pub record JobTaken {D : Type 0} (old new : ShownStore D) (result : Result (Option Job) StepFault) : Type 0 where
@@ -91,6 +117,8 @@ pub record PutDone {D : Type 0} (old new : ShownStore D) (page : Encoded) (resul
   pub nothing : IfOk result (λ p. p ≡ put.Stale → new ≡ old)
   pub waiting : LosesWritten page.page (words old).waiting (words new).waiting result
   pub roots : SameRoots old new
+  pub journals : SameJournals old new
+  pub counted : new.counted ≡ old.counted
   pub progress : new.progress ≡ old.progress
   pub frozen : new.frozen ≡ old.frozen
 
@@ -98,12 +126,14 @@ pub record PutDone {D : Type 0} (old new : ShownStore D) (page : Encoded) (resul
 pub record SealDone {D : Type 0} (old new : ShownStore D) (result : Result (Unit {0}) StepFault) : Type 0 where
   pub done : SealsWhenFlushed old new result
   pub roots : SameRoots old new
+  pub journals : SameJournals old new
   pub numbers : SameNumbers old new
   pub frozen : new.frozen ≡ old.frozen
 
 -- The file of the next root is closed.
 pub record PrepareDone {D : Type 0} (old new : ShownStore D) (result : Result (Unit {0}) StepFault) : Type 0 where
   pub done : PreparesWhenSealed old new result
+  pub journals : SameJournals old new
   pub words : SameWords old new
   pub numbers : SameNumbers old new
   pub frozen : new.frozen ≡ old.frozen
@@ -111,14 +141,17 @@ pub record PrepareDone {D : Type 0} (old new : ShownStore D) (result : Result (U
 -- The next root is durable behind its closed gate.
 pub record WriteDone {D : Type 0} (old new : ShownStore D) (result : Result (Unit {0}) StepFault) : Type 0 where
   pub done : WritesWhenPrepared old new result
+  pub journals : SameJournals old new
   pub words : SameWords old new
   pub numbers : SameNumbers old new
   pub frozen : new.frozen ≡ old.frozen
 
--- The next root is the newest one, and its number is answered.
+-- The next root is the newest one, and its number is answered. It counts the events at the freeze.
 pub record OpenDone {D : Type 0} (old new : ShownStore D) (result : Result ℕ StepFault) : Type 0 where
   pub done : OpensWhenWritten old new result
+  pub journals : SameJournals old new
   pub number : IfOk result (λ n. (n ≡ old.progress.next) × (new.progress.number ≡ n))
+  pub counted : CountsFrozen old new result
   pub slots : new.devices.slots ≡ old.devices.slots
   pub frozen : new.frozen ≡ old.frozen
 
@@ -135,6 +168,7 @@ StepDone g old new step.WriteRoot result = Tells told.Written result (λ r. Writ
 StepDone g old new step.OpenRoot result = Tells told.Opened result (λ r. OpenDone old new r)
 StepDone g old new step.Evict result = Tells told.Evicted result (λ r. EvictDone old new r)
 StepDone g old new (step.Load page) result = Tells told.Loaded result (λ r. LoadDone old new page r)
+StepDone g old new step.Retire result = Tells told.Retired result (λ r. RetireDone old new r)
 
 -- Over honest devices each part of a detector has a spelling.
 pub record ContentFrozen {D : Type 0} (g : disk.Ghosts D) (old new : ShownStore D) (result : Result (Unit {0}) StepFault) : Type 0 where
@@ -167,7 +201,7 @@ StandDuring g step old new = StandMeanwhile g old new (in_doubt_during step old.
 abbrev pub fails_by : StepResult → ℕ → ℕ
 fails_by (told.Offered result) n = failed_after result n
 fails_by (told.Committed result) n = failed_after result n
-fails_by (told.Frozen result) n = n
+fails_by (told.Frozen result) n = failed_by result + n
 fails_by (told.Taken result) n = n
 fails_by (told.Put result) n = failed_by result + n
 fails_by (told.Sealed result) n = failed_by result + n
@@ -176,3 +210,4 @@ fails_by (told.Written result) n = failed_by result + n
 fails_by (told.Opened result) n = failed_by result + n
 fails_by (told.Evicted result) n = failed_by result + n
 fails_by (told.Loaded result) n = failed_by result + n
+fails_by (told.Retired result) n = failed_after result n

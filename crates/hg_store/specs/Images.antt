@@ -10,24 +10,27 @@ use Rattle.hg_disk.specs.declared.disk.Disk as disk
 use Rattle.hg_pages.specs.Slots.{HasBytes}
 use Rattle.hg_root.specs.Checkpoints.{Checkpoint, HasCheckpoint, root_of}
 use Rattle.hg_root.specs.Finding.{WasRead, number_in}
-use Rattle.hg_contents.specs.Images.{HasContent, Image, content_of}
-use Rattle.hg_contents.specs.Stores.{IsLeft, States}
+use Rattle.hg_contents.specs.Images.{content_of}
+use Rattle.hg_images.specs.Images.{HasContent, Image, count_of}
+use Rattle.hg_images.specs.Stores.{IsLeft, States}
 use Rattle.hg_store.specs.declared.devices.Devices.{Devices}
 
 module _ {D : Type 0} (g : disk.Ghosts D) where
   abbrev pub states_of : Devices D → States
-  states_of devices = record { journal = g.state devices.journal; slots = g.state devices.slots; root0 = g.state devices.root0; root1 = g.state devices.root1 }
+  states_of devices = record { journal0 = g.state devices.journal0; journal1 = g.state devices.journal1; slots = g.state devices.slots; root0 = g.state devices.root0; root1 = g.state devices.root1 }
 
   -- what a crash may leave of the devices from one moment to another, each device on its own
   pub record MayLeaveAll (old new : Devices D) (image : Image) : Type 0 where
-    pub journal : MayLeave g old.journal new.journal image.journal
+    pub journal0 : MayLeave g old.journal0 new.journal0 image.journal0
+    pub journal1 : MayLeave g old.journal1 new.journal1 image.journal1
     pub slots : MayLeave g old.slots new.slots image.slots
     pub root0 : MayLeave g old.root0 new.root0 image.root0
     pub root1 : MayLeave g old.root1 new.root1 image.root1
 
   -- Each image of the devices from `old` to `new`, both included, has P.
   pub record EachImage (old new : Devices D) (P : Image → Type 0) : Type 0 where
-    pub journal : GoesOn g old.journal new.journal
+    pub journal0 : GoesOn g old.journal0 new.journal0
+    pub journal1 : GoesOn g old.journal1 new.journal1
     pub slots : GoesOn g old.slots new.slots
     pub root0 : GoesOn g old.root0 new.root0
     pub root1 : GoesOn g old.root1 new.root1
@@ -41,16 +44,19 @@ module _ {D : Type 0} (g : disk.Ghosts D) where
     pub is_content : content_of checkpoint ≡ c
     pub newest : (image : Image) → IsLeft (states_of devices) image → HasCheckpoint (Some checkpoint) image.root0 image.root1 image.slots
 
-  -- Each image of the devices has one newest checkpoint, with this number, or none, where the number is 0.
-  pub record HasNumber (devices : Devices D) (number : ℕ) : Type 0 where
+  -- Each image of the devices has one newest checkpoint, with this number, which counts so many events; or none, where both
+  -- are 0.
+  pub record HasNumber (devices : Devices D) (number counted : ℕ) : Type 0 where
     pub checkpoint : Option Checkpoint
     pub is_number : number ≡ number_in (root_of checkpoint)
+    pub is_count : counted ≡ count_of checkpoint
     pub newest : (image : Image) → IsLeft (states_of devices) image → HasCheckpoint checkpoint image.root0 image.root1 image.slots
 
   -- what the devices read
   abbrev pub read_of : Devices D → Image
   read_of devices = record {
-    journal = (g.state devices.journal).contents;
+    journal0 = (g.state devices.journal0).contents;
+    journal1 = (g.state devices.journal1).contents;
     slots = (g.state devices.slots).contents;
     root0 = (g.state devices.root0).contents;
     root1 = (g.state devices.root1).contents;
@@ -58,7 +64,7 @@ module _ {D : Type 0} (g : disk.Ghosts D) where
 
   -- how many calls of the devices have failed
   abbrev pub failures_of : Devices D → ℕ
-  failures_of devices = g.failures devices.journal + g.failures devices.slots + g.failures devices.root0 + g.failures devices.root1
+  failures_of devices = g.failures devices.journal0 + g.failures devices.journal1 + g.failures devices.slots + g.failures devices.root0 + g.failures devices.root1
 
   -- The count of failed calls changes by this function.
   abbrev pub FailuresBecome : (old new : Devices D) → (ℕ → ℕ) → Type 0
@@ -82,9 +88,10 @@ module _ {D : Type 0} (g : disk.Ghosts D) where
   abbrev pub ReadsSame : (old new : D) → Type 0
   ReadsSame old new = (g.state new).contents ≡ (g.state old).contents
 
-  -- A read of the journal, and of each root, gives what it gave.
+  -- A read of each journal, and of each root, gives what it gave.
   pub record FilesReadSame (old new : Devices D) : Type 0 where
-    pub journal : ReadsSame old.journal new.journal
+    pub journal0 : ReadsSame old.journal0 new.journal0
+    pub journal1 : ReadsSame old.journal1 new.journal1
     pub root0 : ReadsSame old.root0 new.root0
     pub root1 : ReadsSame old.root1 new.root1
 
@@ -100,7 +107,8 @@ module _ {D : Type 0} (g : disk.Ghosts D) where
 
   -- So it is with each device.
   pub record EachReadsOrFailed (old new : Devices D) : Type 0 where
-    pub journal : ReadsOrFailed old new old.journal new.journal
+    pub journal0 : ReadsOrFailed old new old.journal0 new.journal0
+    pub journal1 : ReadsOrFailed old new old.journal1 new.journal1
     pub slots : ReadsOrFailed old new old.slots new.slots
     pub root0 : ReadsOrFailed old new old.root0 new.root0
     pub root1 : ReadsOrFailed old new old.root1 new.root1
@@ -111,9 +119,10 @@ module _ {D : Type 0} (g : disk.Ghosts D) where
     pub bytes : ReadsOrFailed old new before after
     pub images : LeavesOld g before after
 
-  -- The journal and both roots are kept.
+  -- Both journals and both roots are kept.
   pub record KeepsFiles (old new : Devices D) : Type 0 where
-    pub journal : IsKept old new old.journal new.journal
+    pub journal0 : IsKept old new old.journal0 new.journal0
+    pub journal1 : IsKept old new old.journal1 new.journal1
     pub root0 : IsKept old new old.root0 new.root0
     pub root1 : IsKept old new old.root1 new.root1
 
@@ -137,9 +146,10 @@ module _ {D : Type 0} (g : disk.Ghosts D) where
     pub state : g.state new ≡ g.state old
     pub images : LeavesOld g old new
 
-  -- The journal was only read, and each root with three calls at most.
+  -- Each journal was only read, and each root with three calls at most.
   pub record FilesWereRead (old new : Devices D) : Type 0 where
-    pub journal : IsOnlyRead old.journal new.journal
+    pub journal0 : IsOnlyRead old.journal0 new.journal0
+    pub journal1 : IsOnlyRead old.journal1 new.journal1
     pub root0 : WasRead g old.root0 new.root0
     pub root1 : WasRead g old.root1 new.root1
 

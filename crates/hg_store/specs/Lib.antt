@@ -13,4 +13,5 @@ pub mod Limits
 pub mod Refusals
 pub use Rattle.hg_checkpoint.specs.Phases
 pub use Rattle.hg_journal.specs.Journal
+pub use Rattle.hg_journals.specs.Journals
 pub use Rattle.hg_recovery.specs.Answers as RecoveryAnswers

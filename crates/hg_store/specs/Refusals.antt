@@ -20,7 +20,7 @@ module _ {D : Type 0} (g : disk.Ghosts D) where
       ⊎ (((r ≡ FullSlots) × (IsTrue g.is_honest → LacksSlots g MOST_SLOTS old new)) ⊎ ((r ≡ DeviceFault) ⊎ (r ≡ OutOfMemory))))
 
   -- Why a store was not opened with the greatest caps. What is told is true; one call of a device failed where that is told, else none; and the
-  -- journal and the roots are kept.
+  -- journals and the roots are kept.
   pub record IsNotOpened (old new : Devices D) (r : Refusal) : Type 0 where
     pub is_true : IsTrueOf old new r
     pub failed : CountedBy r (failures_of g old) (failures_of g new)

@@ -5,7 +5,8 @@ use Rattle.hg_model.specs.declared.verdict.Refusal.TheVariants.{Broken, DeviceFa
 use Rattle.hg_model.specs.Contents.{Content}
 use Rattle.hg_model.specs.Change.{followed}
 use Rattle.hg_disk.specs.declared.disk.Disk as disk
-use Rattle.hg_contents.specs.Runs.{Run, StandsFor, accepted}
+use Rattle.hg_contents.specs.Runs.{Run, accepted}
+use Rattle.hg_images.specs.Runs.{StandsFor}
 use Rattle.hg_checkpoint.specs.declared.cause.Cause.TheVariants as cause
 use Rattle.hg_store.specs.Doing.{ContentDone, StepDone, Tells, fails_by, in_doubt_during}
 use Rattle.hg_store.specs.Images.{EachImage, failures_of}
@@ -24,7 +25,7 @@ abbrev pub is_device_fault : Refusal → Bool
 is_device_fault DeviceFault = true
 is_device_fault _ = false
 
--- The run after one more answer. The steps of a checkpoint, evictions and loads do not change it.
+-- The run after one more answer. The steps of a checkpoint, evictions, loads and retirements do not change it.
 abbrev pub run_after : Run → Step → StepResult → Run
 run_after run (step.Offer n) (told.Offered result) = record { acknowledged = run.acknowledged; pending = run.pending ++ if_accepted n result; in_doubt = run.in_doubt }
 run_after run step.Commit (told.Committed (Ok count)) = record { acknowledged = accepted run; pending = []; in_doubt = run.in_doubt }
@@ -49,6 +50,11 @@ CommitAnswers c is_broken (Err refusal) = refusal ≡ cond is_broken Broken Devi
 abbrev pub IfBroken : {X : Type 0} → Bool → Result X StepFault → Type 0
 IfBroken is_broken result = is_broken ≡ true → result ≡ Err (Refused cause.Broken)
 
+-- the answers of a retirement, by a broken store or a working one
+abbrev pub RetireAnswers : Bool → Result Bool Refusal → Type 0
+RetireAnswers is_broken (Ok retired) = is_broken ≡ false
+RetireAnswers is_broken (Err refusal) = refusal ≡ cond is_broken Broken DeviceFault
+
 -- The answers that a step may get after this run, from a broken store or a working one.
 abbrev pub Lawful : Content → Run → Bool → Step → StepResult → Type 0
 Lawful start run is_broken (step.Offer n) result = Tells told.Offered result (λ r. (c : Content) × (followed start (accepted run) ≡ Some c) × OfferAnswers c is_broken (length run.pending) n r)
@@ -62,6 +68,7 @@ Lawful start run is_broken step.WriteRoot result = Tells told.Written result (If
 Lawful start run is_broken step.OpenRoot result = Tells told.Opened result (IfBroken is_broken)
 Lawful start run is_broken step.Evict result = Tells told.Evicted result (IfBroken is_broken)
 Lawful start run is_broken (step.Load page) result = Tells told.Loaded result (IfBroken is_broken)
+Lawful start run is_broken step.Retire result = Tells told.Retired result (RetireAnswers is_broken)
 
 -- the store when the first of these steps began; without steps, the store at the end
 abbrev pub begins : {D : Type 0} → Told D → ShownStore D → ShownStore D

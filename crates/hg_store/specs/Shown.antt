@@ -1,5 +1,5 @@
 -- What contracts see of a store.
-use Rattle.std.specs.Prelude.{◌≡◌, ◌+◌, ℕ, List, [], ◌∷◌, Bool, Option, Result, Ok, Err, cond, length}
+use Rattle.std.specs.Prelude.{◌≡◌, ◌+◌, ◌-◌, ℕ, min, List, [], ◌∷◌, Bool, false, true, ◌&&◌, not, nat_lt, nat_le, Option, Result, Ok, Err, cond, length, if◌then◌else◌}
 use Rattle.hg_model.specs.declared.event.Named.{Named}
 use Rattle.hg_model.specs.declared.verdict.Refusal.{Refusal}
 use Rattle.hg_model.specs.declared.verdict.Refusal.TheVariants as refusal
@@ -22,10 +22,19 @@ pub record Progress : Type 0 where
   pub next : ℕ
   pub head : Option (List ℕ)
 
+-- What the two journals keep: how many events came before the first kept one, and before the first one of the current file;
+-- the number of the last event; whether the other file is spare; and whether that is the second one.
+pub record Turns : Type 0 where
+  pub base : ℕ
+  pub current_base : ℕ
+  pub last : ℕ
+  pub has_spare : Bool
+  pub is_turned : Bool
+
 -- The detector has all accepted events, and its map of words is a pool over the file of slots. `pending` are the accepted
 -- events that are not committed. `committed` is the detector with the committed events only, and `durable` is their count.
--- `frozen` is the detector at the last freeze. `is_broken`: a write, a cut or a sync of a device failed. `in_doubt`: it
--- failed in a commit.
+-- `frozen` is the detector at the last freeze. `turns` is what the journals keep, and `counted` how many events the newest open
+-- root counts. `is_broken`: a write, a cut or a sync of a device failed. `in_doubt`: it failed in a commit.
 pub record ShownStore (D : Type 0) : Type 0 where
   pub devices : Devices D
   pub detector : detect.ShownDetector (pool.ShownPool D)
@@ -33,6 +42,8 @@ pub record ShownStore (D : Type 0) : Type 0 where
   pub frozen : detect.ShownDetector (pool.ShownPool D)
   pub pending : List Named
   pub durable : ℕ
+  pub turns : Turns
+  pub counted : ℕ
   pub progress : Progress
   pub is_broken : Bool
   pub in_doubt : Bool
@@ -84,9 +95,32 @@ IsFlushed s = (s.progress.phase ≡ phase.Flushing) × ((words s).waiting ≡ []
 abbrev pub HasNextNumber : {D : Type 0} → (old new : ShownStore D) → Type 0
 HasNextNumber old new = (new.progress.number ≡ old.progress.number) × (new.progress.next ≡ old.progress.number + 1)
 
--- Only the journal has changed.
+-- Only the two journals have changed, as devices.
 abbrev pub IsSameButJournal : {D : Type 0} → (old new : ShownStore D) → Type 0
-IsSameButJournal old new = new ≡ record old { devices = record old.devices { journal = new.devices.journal } }
+IsSameButJournal old new = new ≡ record old { devices = record old.devices { journal0 = new.devices.journal0; journal1 = new.devices.journal1 } }
+
+-- the journal that events are appended to, and the other one
+abbrev pub current : {D : Type 0} → ShownStore D → D
+current s = if s.turns.is_turned then s.devices.journal0 else s.devices.journal1
+
+abbrev pub other : {D : Type 0} → ShownStore D → D
+other s = if s.turns.is_turned then s.devices.journal1 else s.devices.journal0
+
+-- A turn is due: there is a spare file, and the current one has an event.
+abbrev pub is_turn_due : {D : Type 0} → ShownStore D → Bool
+is_turn_due s = s.turns.has_spare && nat_lt s.turns.current_base s.turns.last
+
+-- after a turn: the spare file is the current one, and begins behind the last event
+abbrev pub after_turn : Turns → Turns
+after_turn t = record { base = t.base; current_base = t.last; last = t.last; has_spare = false; is_turned = not t.is_turned }
+
+-- Both files are open, and the newest open root counts the events up to the first one of the current file.
+abbrev pub is_retirable : {D : Type 0} → ShownStore D → Bool
+is_retirable s = not s.turns.has_spare && nat_le s.turns.current_base s.counted
+
+-- after the older file is closed: the first kept event is the first one of the current file
+abbrev pub after_retirement : Turns → Turns
+after_retirement t = record { base = t.current_base; current_base = t.current_base; last = t.last; has_spare = true; is_turned = t.is_turned }
 
 -- a broken store answers Broken, any other one this value
 abbrev pub unless_broken : {D T : Type 0} → ShownStore D → T → Result T Refusal
@@ -99,3 +133,8 @@ broken_or_no_memory s = cond s.is_broken refusal.Broken refusal.OutOfMemory
 -- All accepted events are the durable ones and the pending ones.
 abbrev pub HasCounted : {D : Type 0} → disk.Ghosts D → ShownStore D → Type 0
 HasCounted g s = (live g s).events ≡ s.durable + length s.pending
+
+-- so often each journal is called at most for the kept events from number `from` on, at most `most`: once for each up to the
+-- last one that is found
+abbrev pub most_reads : {D : Type 0} → (from most : ℕ) → ShownStore D → ℕ
+most_reads from most s = ((from - 1) - s.turns.base) + min most ((s.turns.last - s.turns.base) - ((from - 1) - s.turns.base))

@@ -5,7 +5,8 @@ ghost use Rattle.hg_model.specs.Change.{empty_content};
 ghost use Rattle.hg_detect.specs.Engine.{AtPresent};
 ghost use Rattle.hg_detect.specs.Shown.{content};
 ghost use Rattle.hg_disk.specs.Calls.{CallsAtMost};
-ghost use Rattle.hg_journal.specs.Reading as journals;
+ghost use Rattle.hg_journals.specs.Pairs as pairs;
+ghost use Rattle.hg_journals.specs.Making.{IsNewOn};
 ghost use Rattle.hg_pool.specs.Maps as pools;
 ghost use Rattle.hg_pool.specs.Maps.{live};
 ghost use Rattle.hg_pool.specs.OfWords.{MayBring};
@@ -15,7 +16,7 @@ ghost use Rattle.hg_store.specs.Kept.{devices_of};
 ghost use Rattle.hg_store.specs.Images.{read_of};
 ghost use Rattle.hg_root.specs.Pairs.{AreGates, Stands};
 ghost use Rattle.hg_recovery.specs.Detectors.{IsReady};
-ghost use Rattle.hg_store.specs.Recovering.{CountsMaking, CountsNewFiles, HasLimits, IsEmpty, IsFreshOf, IsOfMaking, MakingCalls, MayBeMade, WereNotEmpty, empty_image, first_in, journal_in, joined, made_of, second_in};
+ghost use Rattle.hg_store.specs.Recovering.{CountsMaking, CountsNewFiles, HasLimits, IsEmpty, IsFreshOf, IsOfMaking, MakingCalls, MayBeMade, WereNotEmpty, empty_image, first_in, joined, journal0_in, journal1_in, made_of, second_in};
 ghost use Rattle.hg_store.specs.Store.{IsFresh, IsIdle};
 
 use crate::devices::{Caps, Devices};
@@ -23,7 +24,8 @@ use crate::store::{MOST_PENDING, Store};
 use hg_checkpoint::{Checkpointer, Limits};
 use hg_detect::detector::Detector;
 use hg_disk::Disk;
-use hg_journal::journal::{Journal, JournalRoom};
+use hg_journal::journal::JournalRoom;
+use hg_journals::JournalPair;
 use hg_model::event::Named;
 use hg_model::verdict::Refusal;
 use hg_pages::{MOST_SLOTS, SlotFile};
@@ -52,15 +54,16 @@ pub(crate) fn pending_room(alloc: Global) -> Result<Vec<Named>, Refusal>
     Ok(Vec::with_capacity(alloc, MOST_PENDING)?)
 }
 
-/// Room for all events that may wait for a commit, and the memory of a journal.
-fn rooms(alloc: Global) -> Result<(Vec<Named>, JournalRoom), Refusal>
+/// Room for all events that may wait for a commit, and the memory of two journals.
+fn rooms(alloc: Global) -> Result<(Vec<Named>, JournalRoom, JournalRoom), Refusal>
     ensures none { IfOk result (λ rooms. rooms.0.items ≡ []) }
     ensures room { IfOk result (λ rooms. MOST_PENDING ≤ vec_capacity rooms.0) }
     ensures refusal { IfErr result (λ refusal. refusal ≡ Refusal.OutOfMemory) }
 {
     let pending = pending_room(alloc)?;
-    let journal = JournalRoom::new(alloc)?;
-    Ok((pending, journal))
+    let room0 = JournalRoom::new(alloc)?;
+    let room1 = JournalRoom::new(alloc)?;
+    Ok((pending, room0, room1))
 }
 
 /// Whether no device has a byte.
@@ -68,7 +71,10 @@ fn is_empty<D: Disk>(devices: &Devices<D>) -> bool
     ensures yes { IsTrue result → IsEmpty ⟦<D as Disk>⟧ devices.now }
     ensures no { IsEmpty ⟦<D as Disk>⟧ devices.now → IsTrue result }
 {
-    if devices.journal.len() > 0 {
+    if devices.journal0.len() > 0 {
+        return false;
+    }
+    if devices.journal1.len() > 0 {
         return false;
     }
     if devices.slots.len() > 0 {
@@ -80,84 +86,93 @@ fn is_empty<D: Disk>(devices: &Devices<D>) -> bool
     devices.root1.len() == 0
 }
 
-/// The journal and the two roots of a store of no events, on empty devices. If a device fails, they are handed back.
+/// The two journals and the two roots of a store of no events, on empty devices: the first journal is open with the base 0,
+/// and the second one is spare. If a device fails, they are handed back.
 fn new_files<D: Disk>(
-    room: JournalRoom,
-    journal: D,
+    rooms: (JournalRoom, JournalRoom),
+    journal0: D,
+    journal1: D,
     root0: D,
     root1: D,
-) -> Result<(Journal<D>, RootPair<D>), (D, D, D)>
-    requires journal { (D.state journal).contents ≡ [] }
+) -> Result<(JournalPair<D>, RootPair<D>), (D, D, D, D)>
+    requires journal0 { (D.state journal0).contents ≡ [] }
+    requires journal1 { (D.state journal1).contents ≡ [] }
     requires first { (D.state root0).contents ≡ [] }
     requires second { (D.state root1).contents ≡ [] }
-    ensures empty { IfOk result (λ files. journals.IsEmptyOn journal files.0) }
+    ensures empty { IfOk result (λ files. pairs.Keeps files.0 0 []) }
+    ensures bytes { IfOk result (λ files. IsNewOn journal0 journal1 files.0) }
     ensures stands { IfOk result (λ files. Stands ⟦<D as Disk>⟧ files.1 None None) }
     ensures gates { IfOk result (λ files. AreGates ⟦<D as Disk>⟧ files.1) }
-    ensures journal_calls { CallsAtMost ⟦<D as Disk>⟧ 2 journal (journal_in result) }
+    ensures journal0_calls { CallsAtMost ⟦<D as Disk>⟧ 2 journal0 (journal0_in result) }
+    ensures journal1_calls { CallsAtMost ⟦<D as Disk>⟧ 2 journal1 (journal1_in result) }
     ensures first_calls { CallsAtMost ⟦<D as Disk>⟧ 2 root0 (first_in result) }
     ensures second_calls { CallsAtMost ⟦<D as Disk>⟧ 2 root1 (second_in result) }
-    ensures device { CountsNewFiles journal root0 root1 result }
+    ensures device { CountsNewFiles journal0 journal1 root0 root1 result }
 {
     let roots = match RootPair::create(root0, root1) {
         Ok(roots) => roots,
-        Err((root0, root1)) => return Err((journal, root0, root1)),
+        Err((root0, root1)) => return Err((journal0, journal1, root0, root1)),
     };
-    match Journal::create_in(room, journal) {
-        Ok(journal) => Ok((journal, roots)),
-        Err((_, journal)) => {
+    let (room0, room1) = rooms;
+    match JournalPair::create(room0, room1, journal0, journal1) {
+        Ok(journals) => Ok((journals, roots)),
+        Err((journal0, journal1)) => {
             let (root0, root1) = roots.into_disks();
-            Err((journal, root0, root1))
+            Err((journal0, journal1, root0, root1))
         }
     }
 }
 
-/// The store of these parts, with nothing pending and no checkpoint in progress.
+/// The store of these parts, with nothing pending and no checkpoint in progress. The newest root counts so many events.
 pub(crate) fn made<D: Disk>(
-    journal: Journal<D>,
+    journals: JournalPair<D>,
     detector: Detector<Pool<D>>,
     checkpointer: Checkpointer<D>,
+    counted: u64,
     pending: Vec<Named>,
 ) -> Store<D>
     requires none { pending.items ≡ [] }
     requires room { MOST_PENDING ≤ vec_capacity pending }
     requires lawful { AtPresent MayBring detector }
-    requires journal { journals.is_broken journal ≡ false }
+    requires journals { pairs.is_broken journals ≡ false }
     requires words { pools.is_broken detector.words ≡ false }
     requires checkpointer { checkpointer.is_broken ≡ false }
     requires idle { checkpointer.phase ≡ Idle }
-    requires stands { IsTrue D.is_honest → MayBeMade ⟦<D as Disk>⟧ journal detector checkpointer }
-    ensures fresh { IsFreshOf ⟦<D as Disk>⟧ journal detector checkpointer result }
+    requires stands { IsTrue D.is_honest → MayBeMade ⟦<D as Disk>⟧ journals detector checkpointer counted }
+    ensures fresh { IsFreshOf ⟦<D as Disk>⟧ journals detector checkpointer counted result }
     ensures idle { IsIdle result }
-    ensures devices { result.devices ≡ devices_of ⟦<D as Disk>⟧ journal detector.words checkpointer }
+    ensures devices { result.devices ≡ devices_of ⟦<D as Disk>⟧ journals detector.words checkpointer }
     ensures detector { result.detector ≡ detector }
 {
     let durable = detector.state().events();
     let committed = Snapshot::of(&detector);
     let frozen = Snapshot::of(&detector);
     Store {
-        journal,
+        journals,
         detector,
         checkpointer,
         committed,
         frozen,
         pending,
         durable,
+        counted,
+        counting: durable,
         is_broken: false,
         in_doubt: false,
     }
 }
 
-/// The store of a detector of no events, on a journal of no events and two closed roots.
+/// The store of a detector of no events, on journals of no events and two closed roots.
 fn on_closed_roots<D: Disk>(
     alloc: Global,
-    journal: Journal<D>,
+    journals: JournalPair<D>,
     roots: RootPair<D>,
     detector: Detector<Pool<D>>,
     pending: Vec<Named>,
 ) -> Store<D>
     requires none { pending.items ≡ [] }
     requires room { MOST_PENDING ≤ vec_capacity pending }
-    requires journal { journals.KeepsEvents journal [] }
+    requires journals { pairs.Keeps journals 0 [] }
     requires stands { Stands ⟦<D as Disk>⟧ roots None None }
     requires lawful { AtPresent MayBring detector }
     requires words { pools.is_broken detector.words ≡ false }
@@ -166,16 +181,16 @@ fn on_closed_roots<D: Disk>(
     ensures fresh { IsFresh ⟦<D as Disk>⟧ result empty_content }
     ensures idle { IsIdle result }
     ensures detector { result.detector ≡ detector }
-    ensures devices { result.devices ≡ joined journal detector.words roots }
+    ensures devices { result.devices ≡ joined journals detector.words roots }
 {
     let checkpointer = Checkpointer::new(alloc, roots, 0);
-    made(journal, detector, checkpointer, pending)
+    made(journals, detector, checkpointer, 0, pending)
 }
 
 impl<D: Disk> Store<D> {
-    /// Makes a store of no events on four empty devices. A refusal hands the devices back: `NotEmpty` or `OutOfMemory`,
-    /// with nothing changed, or `DeviceFault`. All memory is taken before the first device call. Then it makes at most six
-    /// device calls, none of them on the slots. Nothing is promised about a crash inside it.
+    /// Makes a store of no events on five empty devices: the first journal is open, and the second one is spare. A refusal
+    /// hands the devices back: `NotEmpty` or `OutOfMemory`, with nothing changed, or `DeviceFault`. All memory is taken before
+    /// the first device call. Then it makes at most eight device calls, none of them on the slots. Nothing is promised about a crash inside it.
     ///
     /// `frames` is the greatest number of pages in memory, 4 to 4,096.
     pub fn create(
@@ -203,12 +218,13 @@ impl<D: Disk> Store<D> {
         if !is_empty(&devices) {
             return Err((CreateFault::NotEmpty, devices));
         }
-        let (pending, room) = match rooms(alloc) {
+        let (pending, room0, room1) = match rooms(alloc) {
             Ok(rooms) => rooms,
             Err(refusal) => return Err((CreateFault::Refused(refusal), devices)),
         };
         let Devices {
-            journal,
+            journal0,
+            journal1,
             slots,
             root0,
             root1,
@@ -222,7 +238,8 @@ impl<D: Disk> Store<D> {
             Ok(detector) => detector,
             Err(file) => {
                 let devices = Devices {
-                    journal,
+                    journal0,
+                    journal1,
                     slots: file.into_disks(),
                     root0,
                     root1,
@@ -230,11 +247,14 @@ impl<D: Disk> Store<D> {
                 return Err((CreateFault::Refused(Refusal::OutOfMemory), devices));
             }
         };
-        match new_files(room, journal, root0, root1) {
-            Ok((journal, roots)) => Ok(on_closed_roots(alloc, journal, roots, detector, pending)),
-            Err((journal, root0, root1)) => {
+        match new_files((room0, room1), journal0, journal1, root0, root1) {
+            Ok((journals, roots)) => {
+                Ok(on_closed_roots(alloc, journals, roots, detector, pending))
+            }
+            Err((journal0, journal1, root0, root1)) => {
                 let devices = Devices {
-                    journal,
+                    journal0,
+                    journal1,
                     slots: detector.into_words().into_disks().into_disks(),
                     root0,
                     root1,

@@ -5,11 +5,13 @@ ghost use Rattle.std.specs.Prelude.{◌≡◌};
 pub use hg_pages::{MOST_SLOTS, SLOT_LEN};
 use hg_sets::MOST_SETS;
 
-/// The four devices of a store.
+/// The five devices of a store.
 #[derive(Debug, Drop)]
 pub struct Devices<D> {
-    /// The events, in the batches in which they were committed.
-    pub journal: D,
+    /// One of the two journals, which take turns: the events, in the batches in which they were committed.
+    pub journal0: D,
+    /// The other one.
+    pub journal1: D,
     /// The pages of checkpoints.
     pub slots: D,
     /// One of the two heads of checkpoints.

@@ -27,7 +27,7 @@ impl<D: Disk> Store<D> {
         ensures done { StepDone ⟦<D as Disk>⟧ self.old self.new step.now result }
         ensures content { IsTrue D.is_honest → ContentDone ⟦<D as Disk>⟧ self.old self.new step.now result }
         ensures device { FailuresBecome ⟦<D as Disk>⟧ self.old.devices self.new.devices (fails_by result) }
-        ensures calls { JournalCallsAtMost ⟦<D as Disk>⟧ 4 self.old self.new }
+        ensures calls { JournalCallsAtMost ⟦<D as Disk>⟧ 5 self.old self.new }
         ensures images { IsTrue D.is_honest → StandDuring ⟦<D as Disk>⟧ step.now self.old self.new }
     {
         let _ = &self.pending;
@@ -43,6 +43,7 @@ impl<D: Disk> Store<D> {
             Step::OpenRoot => StepResult::Opened(self.open_root()),
             Step::Evict => StepResult::Evicted(self.evict()),
             Step::Load(page) => StepResult::Loaded(self.load(page)),
+            Step::Retire => StepResult::Retired(self.retire()),
         }
     }
 

@@ -1,6 +1,6 @@
 //! A store of events with checkpoints: the accepted events, which of them are durable, and the content that they lead to.
 //!
-//! A store has four devices. Its journal has the events. A checkpoint has the content of the events up to some point: its
+//! A store has five devices. Two journals that take turns have the events. A checkpoint has the content of the events up to some point: its
 //! head is in one of two root files, and its pages are in slots.
 #![tactic(auto)]
 
@@ -13,6 +13,6 @@ pub mod page_number;
 pub mod paging;
 pub mod queries;
 mod recover;
-mod replay;
+mod retire;
 pub mod steps;
 pub mod store;

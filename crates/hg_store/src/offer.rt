@@ -8,13 +8,14 @@ ghost use Rattle.hg_detect.specs.Engine.{AtPresent};
 ghost use Rattle.hg_pool.specs.OfWords.{MayBring};
 ghost use Rattle.hg_store.specs.Offers.{IsOffered};
 ghost use Rattle.hg_store.specs.Shown.{KeepsLimits};
-ghost use Rattle.hg_store.specs.Steps.{ContentOffered, IsAnsweredWhenFull, OfferDone, if_accepted};
+ghost use Rattle.hg_store.specs.Steps.{ContentOffered, HasRoom, IsAnsweredWhenFull, OfferDone, if_accepted};
 ghost use Rattle.hg_store.specs.Store.{StandMeanwhile};
 ghost use Rattle.hg_store.specs.Images.{FailuresBecome};
 
 use crate::store::{MOST_PENDING, Store};
 use hg_detect::detector::{Answer, Detector};
 use hg_disk::Disk;
+use hg_gate::MAX_BASE;
 use hg_model::event::{Access, Event, Hold, Named};
 use hg_model::verdict::{Refusal, Verdict};
 use hg_pool::Pool;
@@ -116,7 +117,7 @@ impl<D: Disk> Store<D> {
         if self.is_broken {
             return Err(Refusal::Broken);
         }
-        if self.pending.len() >= MOST_PENDING {
+        if !self.has_room() {
             return self.answer_when_full(named);
         }
         records_fit(named);
@@ -145,7 +146,7 @@ impl<D: Disk> Store<D> {
         if self.is_broken {
             return Err(Refusal::Broken);
         }
-        if self.pending.len() >= MOST_PENDING {
+        if !self.has_room() {
             return self.answer_when_full(&named_access(source, number, access, write));
         }
         let touching = named_access(source, number, access, write);
@@ -169,7 +170,7 @@ impl<D: Disk> Store<D> {
         if self.is_broken {
             return Err(Refusal::Broken);
         }
-        if self.pending.len() >= MOST_PENDING {
+        if !self.has_room() {
             return self.answer_when_full(&named_hold(source, number, hold));
         }
         let holding = named_hold(source, number, hold);
@@ -180,14 +181,31 @@ impl<D: Disk> Store<D> {
         answer
     }
 
-    /// The answer to an event where as many events wait for a commit as may.
+    /// Whether one more event may wait for a commit. Over honest devices the journals have a number for each event that the
+    /// rules accept.
+    #[inline(always)]
+    fn has_room(&self) -> bool
+        ensures yes { IsTrue result → HasRoom self.now }
+        ensures no { HasRoom self.now → IsTrue result }
+    {
+        self.pending.len() < MOST_PENDING
+            && self.journals.last_kept() + (self.pending.len() as u64) < MAX_BASE
+    }
+
+    /// The answer to an event where no further one may wait for a commit.
     #[cold]
     #[inline(never)]
     fn answer_when_full(&self, named: &Named) -> Result<Answer, Refusal>
         ensures { IsAnsweredWhenFull ⟦<D as Disk>⟧ self.now named.now result }
     {
         match self.detector.verdict(named) {
-            Verdict::Accept => Err(Refusal::FullPending),
+            Verdict::Accept => {
+                if self.pending.len() >= MOST_PENDING {
+                    Err(Refusal::FullPending)
+                } else {
+                    Err(Refusal::Damaged)
+                }
+            }
             Verdict::Duplicate(last) => Ok(Answer::Duplicate(last)),
             Verdict::Refuse(refusal) => Err(refusal),
         }

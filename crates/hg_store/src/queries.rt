@@ -1,16 +1,15 @@
 //! The queries of a store.
 
-ghost use Rattle.std.specs.Prelude.{◌≡◌, ◌≢◌, ◌⊎◌, ◌+◌, ◌-◌, ◌*◌, Ok, Err, false, length, IsTrue, OnOk, IfOk, IfErr};
+ghost use Rattle.std.specs.Prelude.{◌≡◌, ◌≢◌, ◌⊎◌, ◌+◌, Ok, Err, false, length, IsTrue, OnOk, IfOk, IfErr};
 ghost use Rattle.hg_model.specs.ThreadSets.{HasThreadSets};
 ghost use Rattle.hg_journal.specs.Journal.{IsOfReading, failed_after};
-ghost use Rattle.hg_store.specs.Shown.{HasCounted, IsSameButJournal, broken_or_no_memory, live, phase_of, unless_broken};
-ghost use Rattle.hg_store.specs.Store.{Backs, HasFoundEvents, HasItsNumber, JournalCallsAtMost};
+ghost use Rattle.hg_store.specs.Shown.{HasCounted, IsSameButJournal, broken_or_no_memory, live, most_reads, phase_of, unless_broken};
+ghost use Rattle.hg_store.specs.Store.{Backs, HasFoundEvents, HasItsEvents, HasItsNumber, JournalCallsAtMost};
 ghost use Rattle.hg_store.specs.Images.{FailuresBecome, KeepImages};
 
 use crate::steps::StorePhase;
 use crate::store::{MOST_PENDING, Store};
 use hg_disk::Disk;
-use hg_journal::collect::collect;
 use hg_model::event::Named;
 use hg_model::report::Report;
 use hg_model::segment::Segment;
@@ -24,6 +23,7 @@ impl<D: Disk> Store<D> {
         ensures count { IsTrue D.is_honest → HasCounted ⟦<D as Disk>⟧ self.now }
         ensures sets { IsTrue D.is_honest → HasThreadSets (live ⟦<D as Disk>⟧ self.now) }
         ensures newest { IsTrue D.is_honest → self.now.is_broken ≡ false → HasItsNumber ⟦<D as Disk>⟧ self.now }
+        ensures kept { IsTrue D.is_honest → self.now.is_broken ≡ false → HasItsEvents ⟦<D as Disk>⟧ self.now }
     {
         let _ = &self.pending;
     }
@@ -109,9 +109,20 @@ impl<D: Disk> Store<D> {
         Ok(self.detector.segments())
     }
 
-    /// Durable events of the journal, at most `max`, from number `from` on; the first event is number 1, and 0 means 1 too.
-    /// It reads the journal from its beginning, with at most two device calls per event, and takes memory for the answer
-    /// and for one batch.
+    /// The number of the first event that the journals keep; where they keep none, that is the count of the durable events
+    /// and 1. It takes no memory.
+    pub fn first_kept(&self) -> Result<u64, Refusal>
+        ensures { result ≡ unless_broken self.now (self.now.turns.base + 1) }
+    {
+        if self.is_broken {
+            return Err(Refusal::Broken);
+        }
+        Ok(self.journals.first_kept())
+    }
+
+    /// Durable events that the journals keep, at most `max`, from number `from` on; it begins with the first kept one where
+    /// `from` is lower. Events are numbered from 1 on, whatever was given up. It calls each journal at most once for each
+    /// kept event up to the last one that it finds, and takes memory for the answer and for one batch.
     pub fn durable_events(
         &mut self,
         alloc: Global,
@@ -125,12 +136,12 @@ impl<D: Disk> Store<D> {
         ensures refusal { IfErr result (λ refusal. IsOfReading refusal ⊎ (refusal ≡ Refusal.Broken)) }
         ensures device { FailuresBecome ⟦<D as Disk>⟧ self.old.devices self.new.devices (failed_after result) }
         ensures rest { IsSameButJournal self.old self.new }
-        ensures calls { JournalCallsAtMost ⟦<D as Disk>⟧ (2 * self.old.durable) self.old self.new }
+        ensures calls { JournalCallsAtMost ⟦<D as Disk>⟧ (most_reads from max self.old) self.old self.new }
         ensures images { KeepImages ⟦<D as Disk>⟧ self.old.devices self.new.devices }
     {
         if self.is_broken {
             return Err(Refusal::Broken);
         }
-        collect(&mut self.journal, alloc, self.durable, from, max)
+        self.journals.collect(alloc, from, max)
     }
 }

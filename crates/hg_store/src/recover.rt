@@ -5,30 +5,29 @@ ghost use Rattle.hg_detect.specs.Engine.{AtPresent};
 ghost use Rattle.hg_detect.specs.Shown.{content};
 ghost use Rattle.hg_disk.specs.Calls.{CallsAtMost};
 ghost use Rattle.hg_disk.specs.State.{counted, settled};
-ghost use Rattle.hg_journal.specs.Reading as journals;
+ghost use Rattle.hg_journals.specs.Pairs as pairs;
 ghost use Rattle.hg_pool.specs.Kept.{Went};
 ghost use Rattle.hg_pool.specs.Maps as pools;
 ghost use Rattle.hg_pool.specs.OfWords.{MayBring};
 ghost use Rattle.hg_root.specs.Pairs.{IsWorking, failures, first_of, second_of};
-ghost use Rattle.hg_store.specs.Images.{EachReadsOrFailed, FailuresBecome, FilesWereRead, KeepContent, KeepsFiles, KeepsSlots, LeavesOld, ReadsSlots, Recovers, RootCallsAtMost, read_of};
+ghost use Rattle.hg_store.specs.Images.{EachReadsOrFailed, FailuresBecome, FilesWereRead, IsOnlyRead, KeepContent, KeepsFiles, KeepsSlots, LeavesOld, ReadsSlots, Recovers, RootCallsAtMost, read_of};
 ghost use Rattle.hg_recovery.specs.Answers.{IfDamaged, IfFullSets, IsOfRecovery};
 ghost use Rattle.hg_recovery.specs.Detectors.{IsAtRest};
-ghost use Rattle.hg_store.specs.Recovering.{CantCatchUp, CantFill, CantTakeSlot, CatchesUp, CountsCatching, CountsRecovery, FillsSets, HasFewSets, HasItsTable, HasLimits, HasNoContent, IsRecovered, LacksSlotsIfFull, MayCatchUp, ReadsSameOrFault, Settled, Stay, first_after, journal_after, made_of, second_after, words_after};
+ghost use Rattle.hg_store.specs.Recovering.{CantCatchUp, CantFill, CantTakeSlot, CatchesUp, CountsCatching, CountsRecovery, FillsSets, HasFewSets, HasItsTable, HasLimits, HasNoContent, IsRecovered, LacksSlotsIfFull, MayCatchUp, ReadsSameOrFault, Settled, Stay, first_after, journal0_after, journal1_after, made_of, second_after, words_after};
 ghost use Rattle.hg_store.specs.Store.{IsIdle};
 
 use crate::create::{made, pending_room};
 use crate::devices::{Caps, Devices};
-use crate::replay::replay;
 use crate::store::{MOST_PENDING, Store};
 use hg_checkpoint::{Checkpointer, Limits};
 use hg_detect::detector::Detector;
 use hg_disk::{Disk, DiskFault};
-use hg_journal::journal::Journal;
+use hg_journals::JournalPair;
 use hg_model::event::Named;
 use hg_model::verdict::Refusal;
 use hg_pages::MOST_SLOTS;
 use hg_pool::Pool;
-use hg_recovery::rooted;
+use hg_recovery::{replay, rooted};
 use hg_root::RootPair;
 use hg_sets::MOST_SETS;
 use std::alloc::Global;
@@ -37,76 +36,80 @@ use std::alloc::Global;
 fn sync_all<D: Disk>(devices: &mut Devices<D>) -> Result<(), DiskFault>
     ensures settled { OnOk result (Settled ⟦<D as Disk>⟧ devices.old devices.new) }
     ensures failures { FailuresBecome ⟦<D as Disk>⟧ devices.old devices.new (counted result) }
-    ensures journal_calls { CallsAtMost ⟦<D as Disk>⟧ 1 devices.old.journal devices.new.journal }
+    ensures journal0_calls { CallsAtMost ⟦<D as Disk>⟧ 1 devices.old.journal0 devices.new.journal0 }
+    ensures journal1_calls { CallsAtMost ⟦<D as Disk>⟧ 1 devices.old.journal1 devices.new.journal1 }
     ensures slots_calls { CallsAtMost ⟦<D as Disk>⟧ 1 devices.old.slots devices.new.slots }
     ensures first_calls { CallsAtMost ⟦<D as Disk>⟧ 1 devices.old.root0 devices.new.root0 }
     ensures second_calls { CallsAtMost ⟦<D as Disk>⟧ 1 devices.old.root1 devices.new.root1 }
     ensures stay { Stay ⟦<D as Disk>⟧ devices.old devices.new }
     ensures bytes { EachReadsOrFailed ⟦<D as Disk>⟧ devices.old devices.new }
 {
-    devices.journal.sync()?;
+    devices.journal0.sync()?;
+    devices.journal1.sync()?;
     devices.slots.sync()?;
     devices.root0.sync()?;
     devices.root1.sync()
 }
 
-/// The store of a journal and a detector that stands at the newest root. The detector follows the events behind that root.
+/// The store of two journals and a detector that stands at the newest root. The detector follows the events behind that root.
 /// A refusal hands the parts back.
 fn caught_up<D: Disk>(
     alloc: Global,
-    journal: Journal<D>,
+    journals: JournalPair<D>,
     detector: Detector<Pool<D>>,
     roots: RootPair<D>,
     number: u64,
     pending: Vec<Named>,
-) -> Result<Store<D>, (Refusal, Journal<D>, Detector<Pool<D>>, RootPair<D>)>
+) -> Result<Store<D>, (Refusal, JournalPair<D>, Detector<Pool<D>>, RootPair<D>)>
     requires none { pending.items ≡ [] }
     requires room { MOST_PENDING ≤ vec_capacity pending }
-    requires works { journals.is_broken journal ≡ false }
+    requires works { pairs.is_broken journals ≡ false }
     requires unbroken { pools.is_broken detector.words ≡ false }
     requires rests { IsAtRest detector.words }
     requires roots_work { IsWorking roots }
     requires lawful { AtPresent MayBring detector }
-    requires started { IsTrue D.is_honest → MayCatchUp journal detector roots number }
-    ensures content { CatchesUp journal detector roots number result }
-    ensures damaged { CantCatchUp journal detector roots number result }
+    requires started { IsTrue D.is_honest → MayCatchUp journals detector roots number }
+    ensures content { CatchesUp journals detector roots number result }
+    ensures damaged { CantCatchUp journals detector roots number result }
     ensures idle { IfOk result IsIdle }
-    ensures sets { IsTrue D.is_honest → IfOk result (λ store. FillsSets journal detector store.detector) }
-    ensures full { IsTrue D.is_honest → CantFill journal detector result }
+    ensures sets { FillsSets journals detector roots number result }
+    ensures full { CantFill journals detector roots number result }
     ensures full_slots { IsTrue D.is_honest → CantTakeSlot detector result }
     ensures refusal { IfErr result (λ e. IsOfRecovery e.0) }
-    ensures device { CountsCatching journal detector result }
-    ensures state { D.state (journal_after result) ≡ D.state (journals.disk_of journal) }
-    ensures journal { LeavesOld ⟦<D as Disk>⟧ (journals.disk_of journal) (journal_after result) }
+    ensures device { CountsCatching journals detector result }
+    ensures journal0 { IsOnlyRead ⟦<D as Disk>⟧ (pairs.first_of journals) (journal0_after result) }
+    ensures journal1 { IsOnlyRead ⟦<D as Disk>⟧ (pairs.second_of journals) (journal1_after result) }
     ensures went { Went ⟦<D as Disk>⟧ detector.words (words_after result) }
     ensures slots { IfOk result (λ store. store.devices.slots ≡ pools.disk_of store.detector.words) }
     ensures first { first_after result ≡ first_of roots }
     ensures second { second_after result ≡ second_of roots }
 {
-    let mut journal = journal;
+    let mut journals = journals;
     let mut detector = detector;
-    match replay(&mut journal, &mut detector) {
+    let counted = detector.state().events();
+    match replay(&mut journals, &mut detector) {
         Ok(()) => {}
-        Err(refusal) => return Err((refusal, journal, detector, roots)),
+        Err(refusal) => return Err((refusal, journals, detector, roots)),
     }
     let checkpointer = Checkpointer::new(alloc, roots, number);
-    Ok(made(journal, detector, checkpointer, pending))
+    Ok(made(journals, detector, checkpointer, counted, pending))
 }
 
 /// The devices of a store that was not made.
-fn handed_back<D: Disk>(journal: D, slots: D, roots: RootPair<D>) -> Devices<D>
-    ensures { result ≡ record { journal = journal; slots = slots; root0 = first_of roots; root1 = second_of roots } }
+fn handed_back<D: Disk>(journal0: D, journal1: D, slots: D, roots: RootPair<D>) -> Devices<D>
+    ensures { result ≡ record { journal0 = journal0; journal1 = journal1; slots = slots; root0 = first_of roots; root1 = second_of roots } }
 {
     let (root0, root1) = roots.into_disks();
     Devices {
-        journal,
+        journal0,
+        journal1,
         slots,
         root0,
         root1,
     }
 }
 
-/// The store on four devices whose bytes are all durable. A refusal hands them back.
+/// The store on five devices whose bytes are all durable. A refusal hands them back.
 fn recovered<D: Disk>(
     alloc: Global,
     devices: Devices<D>,
@@ -134,15 +137,18 @@ fn recovered<D: Disk>(
     ensures images { IsTrue D.is_honest → KeepContent ⟦<D as Disk>⟧ devices (made_of result) }
 {
     let Devices {
-        journal,
+        journal0,
+        journal1,
         slots,
         root0,
         root1,
     } = devices;
     let roots = RootPair::attach(root0, root1);
-    let journal = match Journal::attach(alloc, journal) {
-        Ok(journal) => journal,
-        Err((refusal, journal)) => return Err((refusal, handed_back(journal, slots, roots))),
+    let journals = match JournalPair::attach(alloc, journal0, journal1) {
+        Ok(journals) => journals,
+        Err((refusal, journal0, journal1)) => {
+            return Err((refusal, handed_back(journal0, journal1, slots, roots)));
+        }
     };
     let limits = Limits {
         sets: caps.sets,
@@ -151,31 +157,34 @@ fn recovered<D: Disk>(
     };
     match rooted(alloc, slots, roots, limits) {
         Ok((detector, roots, number)) => {
-            match caught_up(alloc, journal, detector, roots, number, pending) {
+            match caught_up(alloc, journals, detector, roots, number, pending) {
                 Ok(store) => Ok(store),
-                Err((refusal, journal, detector, roots)) => {
+                Err((refusal, journals, detector, roots)) => {
+                    let (journal0, journal1) = journals.into_disks();
                     let slots = detector.into_words().into_disks().into_disks();
-                    Err((refusal, handed_back(journal.into_disk(), slots, roots)))
+                    Err((refusal, handed_back(journal0, journal1, slots, roots)))
                 }
             }
         }
         Err((refusal, slots, roots)) => {
-            Err((refusal, handed_back(journal.into_disk(), slots, roots)))
+            let (journal0, journal1) = journals.into_disks();
+            Err((refusal, handed_back(journal0, journal1, slots, roots)))
         }
     }
 }
 
 impl<D: Disk> Store<D> {
-    /// Recovers the store on four devices, with no event pending and no checkpoint in progress. First each device is
-    /// synced, so that what it reads is durable. Then the newest open root is read with its pages, and the detector follows
-    /// the events of the journal behind it. If no root is open, it follows all events from the empty trace on.
+    /// Recovers the store on five devices, with no event pending and no checkpoint in progress. First each device is
+    /// synced, so that what it reads is durable. Then the journals are read through, and the newest open root with its
+    /// pages, and the detector follows the events of the journals behind it. If no root is open, it follows all events from
+    /// the empty trace on. No file is closed or opened.
     ///
     /// A refusal hands the devices back. `Damaged`: their bytes have no content. `FullSets`: the sets of the root, with
     /// those of the events, are more than `caps.sets`. `FullSlots`: the root names a slot at `caps.slots` or above, or
     /// each slot below it has a page, since the events changed so many. `DeviceFault`: one device call failed. Or
     /// `OutOfMemory`. A crash inside it leaves an image with the content of one that the devices had before.
     ///
-    /// The journal and both roots are synced and read, and nothing else: their bytes stay, and so do those of each slot
+    /// The journals and both roots are synced and read, and nothing else: their bytes stay, and so do those of each slot
     /// that the newest root names. Only where the sync of a device fails it is open which of its images a read gives. A
     /// root is called four times at most.
     ///
@@ -200,7 +209,7 @@ impl<D: Disk> Store<D> {
         ensures device { CountsRecovery ⟦<D as Disk>⟧ devices result }
         ensures calls { RootCallsAtMost ⟦<D as Disk>⟧ 4 devices (made_of result) }
 
-        // Over any devices the journal and the roots keep their bytes; so does each slot that the newest root names.
+        // Over any devices the journals and the roots keep their bytes; so does each slot that the newest root names.
         ensures files { KeepsFiles ⟦<D as Disk>⟧ devices (made_of result) }
         ensures bytes { ReadsSameOrFault ⟦<D as Disk>⟧ devices result }
         ensures slots { IsTrue D.is_honest → KeepsSlots ⟦<D as Disk>⟧ devices (made_of result) }

@@ -75,6 +75,8 @@ pub enum Step {
     Evict,
     /// Brings a page into memory.
     Load(PageNumber),
+    /// Gives up the events that the newest open root counts.
+    Retire,
 }
 
 /// The answer of a step.
@@ -102,4 +104,6 @@ pub enum StepResult {
     Evicted(Result<Option<u64>, StepFault>),
     /// Of a load.
     Loaded(Result<(), StepFault>),
+    /// Whether events were given up.
+    Retired(Result<bool, Refusal>),
 }

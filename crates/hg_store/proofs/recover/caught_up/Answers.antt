@@ -1,65 +1,74 @@
 use Rattle.std.proofs.Common.{◌≡◌, ◌∙◌, ℕ, Err, refl, sym, ap, subst, rules}
 use Rattle.hg_model.specs.Contents.{Content}
+use Rattle.hg_model.specs.Parts as model
 use Rattle.hg_model.specs.declared.verdict.Refusal.{Refusal}
 use Rattle.hg_model.specs.declared.verdict.Refusal.TheVariants.{FullSlots}
 use Rattle.hg_detect.specs.Shown as detect
-use Rattle.hg_disk.specs.State.{DiskState}
-use Rattle.hg_gate.specs.Batches.{header}
-use Rattle.hg_journal.specs.Journal.{IsJournal}
-use Rattle.hg_journal.specs.Reading as journals
-use Rattle.hg_journal.proofs.Journaling.{bytes_now}
-use Rattle.hg_contents.specs.Images.{LeadFrom}
+use Rattle.hg_images.specs.Images.{LeadFrom}
+use Rattle.hg_images.specs.Steps.{resting}
 use Rattle.hg_pool.specs.Maps as pools
 use Rattle.hg_pool.specs.Shown as pool
-use Rattle.hg_store.specs.Recovering.{HasFullSlots, HasSets}
+use Rattle.hg_recovery.specs.Filling.{HasSets}
+use Rattle.hg_recovery.proofs.Replaying.{content_in}
+use Rattle.hg_store.specs.Recovering.{HasFullSlots}
 use Rattle.hg_root.specs.Pairs.{first_of, second_of}
 use Rattle.hg_root.specs.declared.pair.RootPair.{RootPair}
-use Rattle.hg_store.proofs.Making.{based, basis_of, ready}
-use Rattle.hg_store.proofs.Replaying.{at_rest, content_in, full_slots}
+use Rattle.hg_store.proofs.Making.{based}
+use Rattle.hg_store.proofs.FullSlots.{at_rest, full_slots}
 use Rattle.hg_store.proofs.recover.caught_up.Goals as goal
 
 pub made-requires-clause-stands : goal.made-requires-clause-stands
 made-requires-clause-stands g c honest =
     let start = c.requires.started honest in
-    let bodies = start.0 in
-    let now = start.1 in
-    let started = start.3 in
-    let old = c.args.detector in
-    let new = c.replay.new.detector in
-    let went = c.replay.ensures.went in
-    let led = c.in-Ok.ensures.replayed bodies honest start.2 started.ready.faithful in
-    let sets = c.in-Ok.ensures.sets bodies honest start.2 started.ready.faithful in
+    let base = start.0 in
+    let events = start.1 in
+    let now = start.2 in
+    let keeps = start.3 in
+    let started = start.4 in
+    let faithful = started.ready.faithful in
+    let led = c.in-Ok.ensures.replayed base events honest keeps faithful in
     let stand = c.new-checkpointer.ensures.stands _ now.former started.stands in (
-      basis_of g.D.Disk led.0 now,
-      based g.D.Disk g.met.D.Disk.has_its_bytes old c.args.roots c.args.number now started new went c.replay.new.journal led.0 c.new-checkpointer.result led.1 led.2 stand c.new-checkpointer.ensures.number,
-      ready g.D.Disk g.met.D.Disk.has_its_bytes old c.args.roots c.args.number now started new went led.0 led.1.fits led.2 (c.replay.ensures.faithful started.ready.faithful) sets.events sets.is_journal.fits sets.fills,
+      resting base events now,
+      based g.D.Disk g.met.D.Disk.has_its_bytes c.args.detector c.args.roots c.args.number now started c.replay.new.detector c.replay.ensures.went c.replay.new.journals base events c.new-checkpointer.result
+          c.events-counted.result (c.replay.ensures.keeps base events honest keeps) led stand c.new-checkpointer.ensures.number (c.events-counted.ensures ∙ ap (λ (p : model.Parts). p.events) c.state.ensures),
+      c.in-Ok.ensures.ready base events honest keeps faithful started.ready,
     )
 
 pub returns-clause-content : goal.returns-clause-content
-returns-clause-content g c now honest started =
-    let start = c.requires.started honest in
-    let new = c.replay.new.detector in
-    let led = c.in-Ok.ensures.replayed start.0 honest start.2 started.ready.faithful in
+returns-clause-content g c now base events honest started keeps =
+    let led = c.in-Ok.ensures.replayed base events honest keeps started.ready.faithful in
     let stand = c.new-checkpointer.ensures.stands _ now.former started.stands in
-    let base = based g.D.Disk g.met.D.Disk.has_its_bytes c.args.detector c.args.roots c.args.number now started new c.replay.ensures.went c.replay.new.journal led.0 c.new-checkpointer.result led.1 led.2 stand c.new-checkpointer.ensures.number in
-    (_, led.0, subst (λ (s : DiskState). IsJournal s.contents led.0) c.replay.ensures.state (bytes_now g.D.Disk header c.replay.new.journal led.0 led.1), base.gives, c.made.ensures.fresh (basis_of g.D.Disk led.0 now) base)
+    let is = based g.D.Disk g.met.D.Disk.has_its_bytes c.args.detector c.args.roots c.args.number now started c.replay.new.detector c.replay.ensures.went c.replay.new.journals base events c.new-checkpointer.result
+    c.events-counted.result (c.replay.ensures.keeps base events honest keeps) led stand c.new-checkpointer.ensures.number (c.events-counted.ensures ∙ ap (λ (p : model.Parts). p.events) c.state.ensures) in
+    (_, is.gives, c.made.ensures.fresh (resting base events now) is)
 
 pub returns-in-Err-clause-damaged : goal.returns-in-Err-clause-damaged
-returns-in-Err-clause-damaged g c now honest started told events d is gives =
-    let start = c.requires.started honest in
-    c.in-Err.ensures.damaged start.0 honest start.2 started.ready.faithful (ap (λ (r : Refusal). Err r) told) started.ready.state events d is (subst (λ (s : Content). LeadFrom s events d) (sym started.content) gives)
+returns-in-Err-clause-damaged g c now base events honest started keeps told d gives =
+    c.in-Err.ensures.damaged base events honest keeps started.ready.faithful (ap (λ (r : Refusal). Err r) told) started.ready.state d (subst (λ (s : Content). LeadFrom s base events d) (sym started.content) gives)
 
 pub returns-clause-sets : goal.returns-clause-sets
-returns-clause-sets g c honest =
-    let start = c.requires.started honest in
-    subst (λ (d : detect.ShownDetector (pool.ShownPool g.row.D.Denot)). HasSets (content_in g.D.Disk c.args.detector) c.args.detector.sets (g.D.Disk.state (journals.disk_of c.args.journal)).contents (content_in g.D.Disk d) d.sets) (sym c.made.ensures.detector)
-    (c.in-Ok.ensures.sets start.0 honest start.2 start.3.ready.faithful)
+returns-clause-sets g c now base events honest started keeps =
+    subst (λ (d : detect.ShownDetector (pool.ShownPool g.row.D.Denot)). HasSets (content_in g.D.Disk c.args.detector) c.args.detector.sets base events (content_in g.D.Disk d) d.sets) (sym c.made.ensures.detector)
+    (c.in-Ok.ensures.sets base events honest keeps started.ready.faithful)
+
+pub returns-in-Err-clause-full : goal.returns-in-Err-clause-full
+returns-in-Err-clause-full g c now base events honest started keeps told =
+    c.in-Err.ensures.full base events honest keeps started.ready.faithful (ap (λ (r : Refusal). Err r) told)
 
 pub returns-clause-device : goal.returns-clause-device
 returns-clause-device g c = rw (c.made.ensures.devices, c.made.ensures.detector) c.in-Ok.ensures.device
 
-pub returns-clause-journal : goal.returns-clause-journal
-returns-clause-journal g c = rw c.made.ensures.devices c.replay.ensures.any_moment
+pub returns-clause-journal0 : goal.returns-clause-journal0
+returns-clause-journal0 g c = rw c.made.ensures.devices (record { state = c.replay.ensures.files.first.state; images = c.replay.ensures.files.first.any_moment })
+
+pub returns-clause-journal1 : goal.returns-clause-journal1
+returns-clause-journal1 g c = rw c.made.ensures.devices (record { state = c.replay.ensures.files.second.state; images = c.replay.ensures.files.second.any_moment })
+
+pub returns-in-Err-clause-journal0 : goal.returns-in-Err-clause-journal0
+returns-in-Err-clause-journal0 g c = record { state = c.replay.ensures.files.first.state; images = c.replay.ensures.files.first.any_moment }
+
+pub returns-in-Err-clause-journal1 : goal.returns-in-Err-clause-journal1
+returns-in-Err-clause-journal1 g c = record { state = c.replay.ensures.files.second.state; images = c.replay.ensures.files.second.any_moment }
 
 pub returns-clause-went : goal.returns-clause-went
 returns-clause-went g c = rw c.made.ensures.detector c.replay.ensures.went
@@ -73,9 +82,6 @@ returns-clause-first g c = rw c.made.ensures.devices (ap (λ (r : RootPair g.row
 pub returns-clause-second : goal.returns-clause-second
 returns-clause-second g c = rw c.made.ensures.devices (ap (λ (r : RootPair g.row.D.Denot). second_of r) c.new-checkpointer.ensures.roots)
 
-pub returns-clause-state : goal.returns-clause-state
-returns-clause-state g c = rw c.made.ensures.devices c.replay.ensures.state
-
 pub made-requires-clause-words : goal.made-requires-clause-words
 made-requires-clause-words g c = c.replay.ensures.unbroken (λ fault. absurd (search rules))
 
@@ -87,9 +93,4 @@ returns-in-Err-clause-full_slots g c honest told =
     let went = c.replay.ensures.went in
     let is : c.replay.result ≡ Err FullSlots = c.in-Err.is ∙ ap (λ (r : Refusal). Err r) told in
     subst (λ (n : ℕ). HasFullSlots g.D.Disk n (pools.disk_of new)) went.limits.1
-    (full_slots g.D.Disk new (at_rest g.D.Disk old new went c.requires.rests) (went.whole start.3.ready.faithful.whole) (c.replay.ensures.unbroken (λ fault. absurd (cc (sym is ∙ fault)))) (c.replay.ensures.slots is))
-
-pub returns-in-Err-clause-full : goal.returns-in-Err-clause-full
-returns-in-Err-clause-full g c honest told =
-    let start = c.requires.started honest in
-    c.in-Err.ensures.full start.0 honest start.2 start.3.ready.faithful (ap (λ (r : Refusal). Err r) told)
+    (full_slots g.D.Disk new (at_rest g.D.Disk old new went c.requires.rests) (went.whole start.4.ready.faithful.whole) (c.replay.ensures.unbroken (λ fault. absurd (cc (sym is ∙ fault)))) (c.replay.ensures.slots is))

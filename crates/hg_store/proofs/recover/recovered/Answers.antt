@@ -5,8 +5,7 @@ use Rattle.hg_detect.specs.Shown as detect
 use Rattle.hg_disk.specs.State.{DiskState, IsImage}
 use Rattle.hg_disk.proofs.Moments.{joined, weaker}
 use Rattle.hg_disk.proofs.Staying.{same, then}
-use Rattle.hg_journal.specs.Journal.{IsJournal}
-use Rattle.hg_journal.specs.Reading as journals
+use Rattle.hg_journals.specs.Pairs as journals
 use Rattle.hg_pages.specs.Files as files
 use Rattle.hg_pages.specs.declared.slot_file.SlotFile.{SlotFile}
 use Rattle.hg_pool.specs.Maps as pools
@@ -14,20 +13,23 @@ use Rattle.hg_pool.specs.Shown as pool
 use Rattle.hg_root.specs.Checkpoints.{HasCheckpoint, root_of}
 use Rattle.hg_root.specs.Pairs.{first_of, second_of}
 use Rattle.hg_contents.specs.Choices.{HasSlots}
-use Rattle.hg_contents.specs.Images.{LeadFrom}
+use Rattle.hg_images.specs.Images.{LeadFrom}
+use Rattle.hg_contents.specs.Images.{start_of}
 use Rattle.hg_checkpoint.proofs.Staying.{slots_stay}
 use Rattle.hg_store.specs.declared.devices.Devices.{Devices}
 use Rattle.hg_store.specs.Images.{EachImage, FilesWereRead, HasContentOf, failures_of, read_of}
 use Rattle.hg_recovery.specs.Rooting.{HasRootThat, NamesAbove, table_at}
-use Rattle.hg_store.specs.Recovering.{HasFullSlots, HasSets, IsTooSmall}
-use Rattle.hg_store.proofs.Recovering.{checkpoint_kept, counted_so, moved, read_alone, read_on, read_to, root_read, uncalled, uncalled_root, with_pages}
-use Rattle.hg_store.proofs.Replaying.{fills_limit}
+use Rattle.hg_recovery.specs.Filling.{HasSets, IsTooSmall}
+use Rattle.hg_store.specs.Recovering.{HasFullSlots}
+use Rattle.hg_store.proofs.Recovering.{checkpoint_kept, counted_so, gives_of, kept_of, moved, read_alone, read_on, read_to, root_read, uncalled, uncalled_root, with_pages}
+use Rattle.hg_recovery.proofs.Filling.{fills_limit}
 use Rattle.hg_recovery.proofs.Rooting.{settled_leaves}
-use Rattle.hg_store.proofs.Telling.{reading_takes_none}
+use Rattle.hg_recovery.proofs.Telling.{counted_beside, of_reading, reading_asks_none, reading_failed, reading_takes_none}
 use Rattle.hg_store.proofs.recover.recovered.Goals as goal
 
 pub returns-in-Err-clause-damaged : goal.returns-in-Err-clause-damaged
-returns-in-Err-clause-damaged g c honest told d has = c.in-Err.ensures.damaged honest told has.events has.journal
+returns-in-Err-clause-damaged g c honest told d has =
+    c.in-Err.ensures.damaged honest (c.requires.settled.journal0, c.requires.settled.journal1) told has.base has.events has.journals
 
 pub returns-in-Err-clause-images : goal.returns-in-Err-clause-images
 returns-in-Err-clause-images g c honest =
@@ -36,7 +38,8 @@ returns-in-Err-clause-images g c honest =
     let second = c.attach-roots.ensures.second in
     subst (λ (n : Devices g.row.D.Denot). EachImage g.D.Disk old n (HasContentOf (read_of g.D.Disk old))) (sym c.handed_back.ensures)
     (read_alone g.D.Disk old _ c.requires.settled (record {
-      journal = c.in-Err.ensures.disk.any_moment;
+      journal0 = c.in-Err.ensures.first.any_moment;
+      journal1 = c.in-Err.ensures.second.any_moment;
       slots = same g.D.Disk old.slots;
       root0 = moved g.D.Disk old.root0 old.root0 _ old.root0 (IsImage (g.D.Disk.state old.root0)) refl (sym first) (same g.D.Disk old.root0);
       root1 = moved g.D.Disk old.root1 old.root1 _ old.root1 (IsImage (g.D.Disk.state old.root1)) refl (sym second) (same g.D.Disk old.root1);
@@ -45,35 +48,40 @@ returns-in-Err-clause-images g c honest =
 pub caught_up-requires-clause-started : goal.caught_up-requires-clause-started
 caught_up-requires-clause-started g c honest =
     let old = c.args.devices in
-    let opens = c.in-Ok.ensures.opens honest c.requires.settled.journal in
+    let some = c.in-Ok.ensures.keeps honest (c.requires.settled.journal0, c.requires.settled.journal1) in
     let rooted = c.in-Ok-rooted.ensures.rooted honest (g.D.Disk.state old.root0).contents (g.D.Disk.state old.root1).contents (g.D.Disk.state old.slots).contents
     (ap (λ d. g.D.Disk.state d) c.attach-roots.ensures.first ∙ c.requires.settled.root0)
     (ap (λ d. g.D.Disk.state d) c.attach-roots.ensures.second ∙ c.requires.settled.root1)
     c.requires.settled.slots in
-    (opens.0, rooted.now, opens.1, rooted.started)
+    (some.0, some.1, rooted.now, some.2, rooted.started)
 
 pub returns-in-Ok-caught_up-clause-content : goal.returns-in-Ok-caught_up-clause-content
 returns-in-Ok-caught_up-clause-content g c honest =
     let old = c.args.devices in
+    let some = c.in-Ok.ensures.keeps honest (c.requires.settled.journal0, c.requires.settled.journal1) in
+    let have = kept_of g.D.Disk c.in-Ok.journals some.0 some.1 some.2 old.journal0 old.journal1 c.in-Ok.ensures.first.state c.in-Ok.ensures.second.state in
     let rooted = c.in-Ok-rooted.ensures.rooted honest (g.D.Disk.state old.root0).contents (g.D.Disk.state old.root1).contents (g.D.Disk.state old.slots).contents
     (ap (λ d. g.D.Disk.state d) c.attach-roots.ensures.first ∙ c.requires.settled.root0)
     (ap (λ d. g.D.Disk.state d) c.attach-roots.ensures.second ∙ c.requires.settled.root1)
     c.requires.settled.slots in
-    let has = c.in-Ok-caught_up.ensures.content rooted.now honest rooted.started in (
+    let has = c.in-Ok-caught_up.ensures.content rooted.now some.0 some.1 honest rooted.started some.2 in (
       has.0,
       record {
         checkpoint = rooted.now.checkpoint;
         stands = record { former = rooted.now.former; newest = rooted.has_roots; stand = rooted.has_slots };
-        events = has.1;
-        journal = subst (λ (s : DiskState). IsJournal s.contents has.1) c.in-Ok.ensures.disk.state has.2;
-        gives = has.3;
+        base = some.0;
+        events = some.1;
+        journals = have;
+        gives = has.1;
       },
-      has.4,
+      has.2,
     )
 
 pub returns-in-Ok-caught_up-clause-sets : goal.returns-in-Ok-caught_up-clause-sets
 returns-in-Ok-caught_up-clause-sets g c honest =
     let old = c.args.devices in
+    let some = c.in-Ok.ensures.keeps honest (c.requires.settled.journal0, c.requires.settled.journal1) in
+    let have = kept_of g.D.Disk c.in-Ok.journals some.0 some.1 some.2 old.journal0 old.journal1 c.in-Ok.ensures.first.state c.in-Ok.ensures.second.state in
     let store = c.in-Ok-caught_up.store in
     let rooted = c.in-Ok-rooted.ensures.rooted honest (g.D.Disk.state old.root0).contents (g.D.Disk.state old.root1).contents (g.D.Disk.state old.slots).contents
     (ap (λ d. g.D.Disk.state d) c.attach-roots.ensures.first ∙ c.requires.settled.root0)
@@ -83,10 +91,12 @@ returns-in-Ok-caught_up-clause-sets g c honest =
     record {
       checkpoint = rooted.now.checkpoint;
       stands = record { former = rooted.now.former; newest = rooted.has_roots; stand = rooted.has_slots };
-      sets = subst (λ (s : Content). HasSets s (table_at c.args.caps.sets (root_of rooted.now.checkpoint)) (g.D.Disk.state old.journal).contents live store.detector.sets) rooted.started.content
-          (subst (λ (t : Table). HasSets (detect.content (pools.live g.D.Disk) c.in-Ok-rooted.detector) t (g.D.Disk.state old.journal).contents live store.detector.sets) rooted.sets
-          (subst (λ (s : DiskState). HasSets (detect.content (pools.live g.D.Disk) c.in-Ok-rooted.detector) c.in-Ok-rooted.detector.sets s.contents live store.detector.sets) c.in-Ok.ensures.disk.state
-          (c.in-Ok-caught_up.ensures.sets honest)));
+      base = some.0;
+      events = some.1;
+      journals = have;
+      sets = subst (λ (s : Content). HasSets s (table_at c.args.caps.sets (root_of rooted.now.checkpoint)) some.0 some.1 live store.detector.sets) rooted.started.content
+          (subst (λ (t : Table). HasSets (detect.content (pools.live g.D.Disk) c.in-Ok-rooted.detector) t some.0 some.1 live store.detector.sets) rooted.sets
+          (c.in-Ok-caught_up.ensures.sets rooted.now some.0 some.1 honest rooted.started some.2));
     }
 
 pub returns-in-Ok-caught_up-clause-images : goal.returns-in-Ok-caught_up-clause-images
@@ -100,7 +110,8 @@ returns-in-Ok-caught_up-clause-images g c honest =
     let words = c.in-Ok-rooted.detector.words in
     let P = HasSlots rooted.now in
     with_pages g.D.Disk old new c.requires.settled c.args.caps.sets c.in-Ok-rooted.number c.in-Ok-rooted.detector c.in-Ok-rooted.roots rooted
-    (then g.D.Disk old.journal (journals.disk_of c.in-Ok.journal) new.journal c.in-Ok.ensures.disk.any_moment c.in-Ok-caught_up.ensures.journal)
+    (then g.D.Disk old.journal0 (journals.first_of c.in-Ok.journals) new.journal0 c.in-Ok.ensures.first.any_moment c.in-Ok-caught_up.ensures.journal0.images)
+    (then g.D.Disk old.journal1 (journals.second_of c.in-Ok.journals) new.journal1 c.in-Ok.ensures.second.any_moment c.in-Ok-caught_up.ensures.journal1.images)
     (moved g.D.Disk old.slots old.slots new.slots (pools.disk_of c.in-Ok-caught_up.store.detector.words) P refl (sym c.in-Ok-caught_up.ensures.slots)
     (joined g.D.Disk old.slots (pools.disk_of words) (pools.disk_of c.in-Ok-caught_up.store.detector.words) P
     (weaker g.D.Disk old.slots (pools.disk_of words) (IsImage (g.D.Disk.state old.slots)) P c.in-Ok-rooted.ensures.any_moment (settled_leaves P (g.D.Disk.state old.slots).contents (g.D.Disk.state old.slots) c.requires.settled.slots rooted.has_slots))
@@ -111,29 +122,34 @@ returns-in-Ok-caught_up-clause-images g c honest =
 pub returns-in-Err-caught_up-clause-damaged : goal.returns-in-Err-caught_up-clause-damaged
 returns-in-Err-caught_up-clause-damaged g c honest told d has =
     let old = c.args.devices in
+    let some = c.in-Ok.ensures.keeps honest (c.requires.settled.journal0, c.requires.settled.journal1) in
+    let have = kept_of g.D.Disk c.in-Ok.journals some.0 some.1 some.2 old.journal0 old.journal1 c.in-Ok.ensures.first.state c.in-Ok.ensures.second.state in
     let rooted = c.in-Ok-rooted.ensures.rooted honest (g.D.Disk.state old.root0).contents (g.D.Disk.state old.root1).contents (g.D.Disk.state old.slots).contents
     (ap (λ d. g.D.Disk.state d) c.attach-roots.ensures.first ∙ c.requires.settled.root0)
     (ap (λ d. g.D.Disk.state d) c.attach-roots.ensures.second ∙ c.requires.settled.root1)
     c.requires.settled.slots in
-    c.in-Err-caught_up.ensures.damaged rooted.now honest rooted.started told has.events d
-    (subst (λ (s : DiskState). IsJournal s.contents has.events) (sym c.in-Ok.ensures.disk.state) has.journal)
-    (subst (λ (s : Content). LeadFrom s has.events d) (rooted.only has.checkpoint has.stands) has.gives)
+    c.in-Err-caught_up.ensures.damaged rooted.now some.0 some.1 honest rooted.started some.2 told d
+    (gives_of (read_of g.D.Disk old) d some.0 some.1 (start_of rooted.now.checkpoint) has have (rooted.only has.checkpoint has.stands))
 
 pub returns-in-Err-caught_up-clause-full : goal.returns-in-Err-caught_up-clause-full
 returns-in-Err-caught_up-clause-full g c honest told =
     let old = c.args.devices in
+    let some = c.in-Ok.ensures.keeps honest (c.requires.settled.journal0, c.requires.settled.journal1) in
+    let have = kept_of g.D.Disk c.in-Ok.journals some.0 some.1 some.2 old.journal0 old.journal1 c.in-Ok.ensures.first.state c.in-Ok.ensures.second.state in
     let rooted = c.in-Ok-rooted.ensures.rooted honest (g.D.Disk.state old.root0).contents (g.D.Disk.state old.root1).contents (g.D.Disk.state old.slots).contents
     (ap (λ d. g.D.Disk.state d) c.attach-roots.ensures.first ∙ c.requires.settled.root0)
     (ap (λ d. g.D.Disk.state d) c.attach-roots.ensures.second ∙ c.requires.settled.root1)
     c.requires.settled.slots in
-    inr (
-      rooted.now.checkpoint,
-      record { former = rooted.now.former; newest = rooted.has_roots; stand = rooted.has_slots },
-      subst (λ (s : Content). IsTooSmall s (table_at c.args.caps.sets (root_of rooted.now.checkpoint)) (g.D.Disk.state old.journal).contents) rooted.started.content
-          (subst (λ (t : Table). IsTooSmall (detect.content (pools.live g.D.Disk) c.in-Ok-rooted.detector) t (g.D.Disk.state old.journal).contents) rooted.sets
-          (subst (λ (s : DiskState). IsTooSmall (detect.content (pools.live g.D.Disk) c.in-Ok-rooted.detector) c.in-Ok-rooted.detector.sets s.contents) c.in-Ok.ensures.disk.state
-          (c.in-Err-caught_up.ensures.full honest told))),
-    )
+    inr (record {
+      checkpoint = rooted.now.checkpoint;
+      stands = record { former = rooted.now.former; newest = rooted.has_roots; stand = rooted.has_slots };
+      base = some.0;
+      events = some.1;
+      journals = have;
+      small = subst (λ (s : Content). IsTooSmall s (table_at c.args.caps.sets (root_of rooted.now.checkpoint)) some.0 some.1) rooted.started.content
+          (subst (λ (t : Table). IsTooSmall (detect.content (pools.live g.D.Disk) c.in-Ok-rooted.detector) t some.0 some.1) rooted.sets
+          (c.in-Err-caught_up.ensures.full rooted.now some.0 some.1 honest rooted.started some.2 told));
+    })
 
 pub returns-in-Err-caught_up-clause-device : goal.returns-in-Err-caught_up-clause-device
 returns-in-Err-caught_up-clause-device g c =
@@ -144,11 +160,12 @@ returns-in-Err-caught_up-clause-device g c =
     let one = ap (λ d. g.D.Disk.failures d) c.attach-roots.ensures.first in
     let two = ap (λ d. g.D.Disk.failures d) c.attach-roots.ensures.second in
     let handed = ap (λ (n : Devices g.row.D.Denot). failures_of g.D.Disk n) c.handed_back-in-Err-caught_up.ensures in
-    let journal = ap (λ d. g.D.Disk.failures d) c.into_disk.ensures in
+    let journal0 = ap (λ d. g.D.Disk.failures d) c.into_disks-journal0.ensures.first in
+    let journal1 = ap (λ d. g.D.Disk.failures d) c.into_disks-journal0.ensures.second in
     let slots = ap (λ d. g.D.Disk.failures d) (c.into_disks-slots.ensures ∙ ap (λ (f : SlotFile g.row.D.Denot). files.disk_of f) (c.into_disks.ensures ∙ ap (λ (w : pool.ShownPool g.row.D.Denot). w.file) c.into_words.ensures)) in
     let still_one = ap (λ d. g.D.Disk.failures d) c.in-Err-caught_up.ensures.first in
     let still_two = ap (λ d. g.D.Disk.failures d) c.in-Err-caught_up.ensures.second in
-    counted_so c.in-Err-caught_up.refusal _ _ _ _ (g.D.Disk.failures first + g.D.Disk.failures second) c.in-Err-caught_up.ensures.device (omega (arith, opened, found, one, two)) (omega (arith, handed, journal, slots, still_one, still_two))
+    counted_so c.in-Err-caught_up.refusal _ _ _ _ (g.D.Disk.failures first + g.D.Disk.failures second) c.in-Err-caught_up.ensures.device (omega (arith, opened, found, one, two)) (omega (arith, handed, journal0, journal1, slots, still_one, still_two))
 
 pub returns-in-Err-caught_up-clause-images : goal.returns-in-Err-caught_up-clause-images
 returns-in-Err-caught_up-clause-images g c honest =
@@ -162,8 +179,10 @@ returns-in-Err-caught_up-clause-images g c honest =
     let P = HasSlots rooted.now in
     subst (λ (n : Devices g.row.D.Denot). EachImage g.D.Disk old n (HasContentOf (read_of g.D.Disk old))) (sym c.handed_back-in-Err-caught_up.ensures)
     (with_pages g.D.Disk old _ c.requires.settled c.args.caps.sets c.in-Ok-rooted.number c.in-Ok-rooted.detector c.in-Ok-rooted.roots rooted
-    (moved g.D.Disk old.journal old.journal _ (journals.disk_of c.in-Err-caught_up.journal) (IsImage (g.D.Disk.state old.journal)) refl (sym c.into_disk.ensures)
-    (then g.D.Disk old.journal (journals.disk_of c.in-Ok.journal) (journals.disk_of c.in-Err-caught_up.journal) c.in-Ok.ensures.disk.any_moment c.in-Err-caught_up.ensures.journal))
+    (moved g.D.Disk old.journal0 old.journal0 _ (journals.first_of c.in-Err-caught_up.journals) (IsImage (g.D.Disk.state old.journal0)) refl (sym c.into_disks-journal0.ensures.first)
+    (then g.D.Disk old.journal0 (journals.first_of c.in-Ok.journals) (journals.first_of c.in-Err-caught_up.journals) c.in-Ok.ensures.first.any_moment c.in-Err-caught_up.ensures.journal0.images))
+    (moved g.D.Disk old.journal1 old.journal1 _ (journals.second_of c.in-Err-caught_up.journals) (IsImage (g.D.Disk.state old.journal1)) refl (sym c.into_disks-journal0.ensures.second)
+    (then g.D.Disk old.journal1 (journals.second_of c.in-Ok.journals) (journals.second_of c.in-Err-caught_up.journals) c.in-Ok.ensures.second.any_moment c.in-Err-caught_up.ensures.journal1.images))
     (moved g.D.Disk old.slots old.slots _ (pools.disk_of now) P refl
     (sym (c.into_disks-slots.ensures ∙ ap (λ (f : SlotFile g.row.D.Denot). files.disk_of f) (c.into_disks.ensures ∙ ap (λ (w : pool.ShownPool g.row.D.Denot). w.file) c.into_words.ensures)))
     (joined g.D.Disk old.slots (pools.disk_of words) (pools.disk_of now) P
@@ -184,7 +203,8 @@ returns-in-Err-rooted-clause-images g c honest =
     let old = c.args.devices in
     subst (λ (n : Devices g.row.D.Denot). EachImage g.D.Disk old n (HasContentOf (read_of g.D.Disk old))) (sym c.handed_back-in-Err-rooted.ensures)
     (read_alone g.D.Disk old _ c.requires.settled (record {
-      journal = moved g.D.Disk old.journal old.journal _ (journals.disk_of c.in-Ok.journal) (IsImage (g.D.Disk.state old.journal)) refl (sym c.into_disk-in-Err-rooted.ensures) c.in-Ok.ensures.disk.any_moment;
+      journal0 = moved g.D.Disk old.journal0 old.journal0 _ (journals.first_of c.in-Ok.journals) (IsImage (g.D.Disk.state old.journal0)) refl (sym c.into_disks-journal0-in-Err-rooted.ensures.first) c.in-Ok.ensures.first.any_moment;
+      journal1 = moved g.D.Disk old.journal1 old.journal1 _ (journals.second_of c.in-Ok.journals) (IsImage (g.D.Disk.state old.journal1)) refl (sym c.into_disks-journal0-in-Err-rooted.ensures.second) c.in-Ok.ensures.second.any_moment;
       slots = c.in-Err-rooted.ensures.any_moment;
       root0 = read_on g.D.Disk old.root0 (first_of c.attach-roots.result) _ (first_of c.in-Err-rooted.roots) c.attach-roots.ensures.first refl c.in-Err-rooted.ensures.first.any_moment;
       root1 = read_on g.D.Disk old.root1 (second_of c.attach-roots.result) _ (second_of c.in-Err-rooted.roots) c.attach-roots.ensures.second refl c.in-Err-rooted.ensures.second.any_moment;
@@ -197,14 +217,22 @@ returns-in-Ok-caught_up-clause-limits g c =
     record {
       frames = went.limits.0 ∙ size.frames;
       slots = went.limits.1 ∙ size.slots;
-      sets = λ honest. let filled = c.in-Ok-caught_up.ensures.sets honest in fills_limit _ _ _ _ _ filled.fills ∙ size.sets;
+      sets = λ honest.
+          let old = c.args.devices in
+          let some = c.in-Ok.ensures.keeps honest (c.requires.settled.journal0, c.requires.settled.journal1) in
+          let rooted = c.in-Ok-rooted.ensures.rooted honest (g.D.Disk.state old.root0).contents (g.D.Disk.state old.root1).contents (g.D.Disk.state old.slots).contents
+          (ap (λ d. g.D.Disk.state d) c.attach-roots.ensures.first ∙ c.requires.settled.root0)
+          (ap (λ d. g.D.Disk.state d) c.attach-roots.ensures.second ∙ c.requires.settled.root1)
+          c.requires.settled.slots in
+          fills_limit _ _ _ _ _ (c.in-Ok-caught_up.ensures.sets rooted.now some.0 some.1 honest rooted.started some.2) ∙ size.sets;
     }
 
 pub returns-in-Err-clause-files : goal.returns-in-Err-clause-files
 returns-in-Err-clause-files g c =
     let old = c.args.devices in
     subst (λ (n : Devices g.row.D.Denot). FilesWereRead g.D.Disk old n) (sym c.handed_back.ensures) (record {
-      journal = record { state = c.in-Err.ensures.disk.state; images = c.in-Err.ensures.disk.any_moment };
+      journal0 = record { state = c.in-Err.ensures.first.state; images = c.in-Err.ensures.first.any_moment };
+      journal1 = record { state = c.in-Err.ensures.second.state; images = c.in-Err.ensures.second.any_moment };
       root0 = uncalled_root g.D.Disk old.root0 _ c.attach-roots.ensures.first;
       root1 = uncalled_root g.D.Disk old.root1 _ c.attach-roots.ensures.second;
     })
@@ -219,9 +247,13 @@ returns-in-Ok-caught_up-clause-files g c =
     let old = c.args.devices in
     let new = c.in-Ok-caught_up.store.devices in
     record {
-      journal = record {
-        state = c.in-Ok-caught_up.ensures.state ∙ c.in-Ok.ensures.disk.state;
-        images = then g.D.Disk old.journal (journals.disk_of c.in-Ok.journal) new.journal c.in-Ok.ensures.disk.any_moment c.in-Ok-caught_up.ensures.journal;
+      journal0 = record {
+        state = c.in-Ok-caught_up.ensures.journal0.state ∙ c.in-Ok.ensures.first.state;
+        images = then g.D.Disk old.journal0 (journals.first_of c.in-Ok.journals) new.journal0 c.in-Ok.ensures.first.any_moment c.in-Ok-caught_up.ensures.journal0.images;
+      };
+      journal1 = record {
+        state = c.in-Ok-caught_up.ensures.journal1.state ∙ c.in-Ok.ensures.second.state;
+        images = then g.D.Disk old.journal1 (journals.second_of c.in-Ok.journals) new.journal1 c.in-Ok.ensures.second.any_moment c.in-Ok-caught_up.ensures.journal1.images;
       };
       root0 = root_read g.D.Disk old.root0 (first_of c.attach-roots.result) new.root0 (first_of c.in-Ok-rooted.roots) c.attach-roots.ensures.first (sym c.in-Ok-caught_up.ensures.first) c.in-Ok-rooted.ensures.first;
       root1 = root_read g.D.Disk old.root1 (second_of c.attach-roots.result) new.root1 (second_of c.in-Ok-rooted.roots) c.attach-roots.ensures.second (sym c.in-Ok-caught_up.ensures.second) c.in-Ok-rooted.ensures.second;
@@ -241,9 +273,13 @@ pub returns-in-Err-caught_up-clause-files : goal.returns-in-Err-caught_up-clause
 returns-in-Err-caught_up-clause-files g c =
     let old = c.args.devices in
     subst (λ (n : Devices g.row.D.Denot). FilesWereRead g.D.Disk old n) (sym c.handed_back-in-Err-caught_up.ensures) (record {
-      journal = read_to g.D.Disk old.journal (journals.disk_of c.in-Err-caught_up.journal) _ c.into_disk.ensures (record {
-        state = c.in-Err-caught_up.ensures.state ∙ c.in-Ok.ensures.disk.state;
-        images = then g.D.Disk old.journal (journals.disk_of c.in-Ok.journal) (journals.disk_of c.in-Err-caught_up.journal) c.in-Ok.ensures.disk.any_moment c.in-Err-caught_up.ensures.journal;
+      journal0 = read_to g.D.Disk old.journal0 (journals.first_of c.in-Err-caught_up.journals) _ c.into_disks-journal0.ensures.first (record {
+        state = c.in-Err-caught_up.ensures.journal0.state ∙ c.in-Ok.ensures.first.state;
+        images = then g.D.Disk old.journal0 (journals.first_of c.in-Ok.journals) (journals.first_of c.in-Err-caught_up.journals) c.in-Ok.ensures.first.any_moment c.in-Err-caught_up.ensures.journal0.images;
+      });
+      journal1 = read_to g.D.Disk old.journal1 (journals.second_of c.in-Err-caught_up.journals) _ c.into_disks-journal0.ensures.second (record {
+        state = c.in-Err-caught_up.ensures.journal1.state ∙ c.in-Ok.ensures.second.state;
+        images = then g.D.Disk old.journal1 (journals.second_of c.in-Ok.journals) (journals.second_of c.in-Err-caught_up.journals) c.in-Ok.ensures.second.any_moment c.in-Err-caught_up.ensures.journal1.images;
       });
       root0 = root_read g.D.Disk old.root0 (first_of c.attach-roots.result) _ (first_of c.in-Ok-rooted.roots) c.attach-roots.ensures.first (sym c.in-Err-caught_up.ensures.first) c.in-Ok-rooted.ensures.first;
       root1 = root_read g.D.Disk old.root1 (second_of c.attach-roots.result) _ (second_of c.in-Ok-rooted.roots) c.attach-roots.ensures.second (sym c.in-Err-caught_up.ensures.second) c.in-Ok-rooted.ensures.second;
@@ -265,7 +301,8 @@ pub returns-in-Err-rooted-clause-files : goal.returns-in-Err-rooted-clause-files
 returns-in-Err-rooted-clause-files g c =
     let old = c.args.devices in
     subst (λ (n : Devices g.row.D.Denot). FilesWereRead g.D.Disk old n) (sym c.handed_back-in-Err-rooted.ensures) (record {
-      journal = read_to g.D.Disk old.journal (journals.disk_of c.in-Ok.journal) _ c.into_disk-in-Err-rooted.ensures (record { state = c.in-Ok.ensures.disk.state; images = c.in-Ok.ensures.disk.any_moment });
+      journal0 = read_to g.D.Disk old.journal0 (journals.first_of c.in-Ok.journals) _ c.into_disks-journal0-in-Err-rooted.ensures.first (record { state = c.in-Ok.ensures.first.state; images = c.in-Ok.ensures.first.any_moment });
+      journal1 = read_to g.D.Disk old.journal1 (journals.second_of c.in-Ok.journals) _ c.into_disks-journal0-in-Err-rooted.ensures.second (record { state = c.in-Ok.ensures.second.state; images = c.in-Ok.ensures.second.any_moment });
       root0 = root_read g.D.Disk old.root0 (first_of c.attach-roots.result) _ (first_of c.in-Err-rooted.roots) c.attach-roots.ensures.first refl c.in-Err-rooted.ensures.first;
       root1 = root_read g.D.Disk old.root1 (second_of c.attach-roots.result) _ (second_of c.in-Err-rooted.roots) c.attach-roots.ensures.second refl c.in-Err-rooted.ensures.second;
     })

@@ -51,7 +51,9 @@ invariant_of-self g c =
       lawful = within_still _ _ _ _ (subst (λ (p : Pool g.row.D.Denot). CellsFrom p.frames c.evict.new.self.frames) c.words_mut.ensures.value c.evict.ensures.cells) c.self.invariant.lawful;
       few = c.self.invariant.few;
       room = c.self.invariant.room;
-      journal = c.self.invariant.journal;
+      journals = c.self.invariant.journals;
+      fits = c.self.invariant.fits;
+      counting = c.self.invariant.counting;
       words = λ works. works_on g.D.Disk _ _ stays.went (search rules) (c.self.invariant.words works);
       checkpointer = c.self.invariant.checkpointer;
       sealed = λ rooting. stays.went.sealed (c.self.invariant.sealed rooting);
@@ -65,7 +67,9 @@ invariant_of-self-in-Err g c =
       lawful = within_still _ _ _ _ (subst (λ (p : Pool g.row.D.Denot). CellsFrom p.frames c.evict.new.self.frames) c.words_mut.ensures.value c.evict.ensures.cells) c.self.invariant.lawful;
       few = c.self.invariant.few;
       room = c.self.invariant.room;
-      journal = λ _. c.self.invariant.journal c.if-self.false;
+      journals = λ _. c.self.invariant.journals c.if-self.false;
+      fits = λ _. c.self.invariant.fits c.if-self.false;
+      counting = c.self.invariant.counting;
       words = search rules;
       checkpointer = λ _. c.self.invariant.checkpointer c.if-self.false;
       sealed = λ rooting. stays.went.sealed (c.self.invariant.sealed rooting);
@@ -100,7 +104,7 @@ returns-in-Ok-clause-done g c =
     let on : pools.is_broken c.evict.new.self ≡ false = works_on g.D.Disk _ _ stays.went (search rules) (c.self.invariant.words works) in
     rw (← c.self.view_is) (record {
       moves = record {
-        same = record { journal = refl; root0 = refl; root1 = refl; committed = refl; frozen = refl; durable = refl; progress = refl; in_doubt = refl };
+        same = record { journals = record { journal0 = refl; journal1 = refl; turns = refl }; counted = refl; root0 = refl; root1 = refl; committed = refl; frozen = refl; durable = refl; progress = refl; in_doubt = refl };
         pending = refl;
         detector = refl;
         works = works;
@@ -139,7 +143,7 @@ returns-in-Err-clause-done g c =
     let told : c.is_broken-self-inside.result ≡ pools.is_broken after = search rules in
     rw (← c.self.view_is) (record {
       moves = record {
-        same = record { journal = refl; root0 = refl; root1 = refl; committed = refl; frozen = refl; durable = refl; progress = refl; in_doubt = refl };
+        same = record { journals = record { journal0 = refl; journal1 = refl; turns = refl }; counted = refl; root0 = refl; root1 = refl; committed = refl; frozen = refl; durable = refl; progress = refl; in_doubt = refl };
         pending = refl;
         detector = refl;
         works = tt;

@@ -30,7 +30,9 @@ invariant_of-self g c = record {
   lawful = c.bring.ensures.lawful;
   few = c.self.invariant.few;
   room = c.self.invariant.room;
-  journal = c.self.invariant.journal;
+  journals = c.self.invariant.journals;
+  fits = c.self.invariant.fits;
+  counting = c.self.invariant.counting;
   words = λ works. works_on g.D.Disk _ _ c.bring.ensures.went c.in-Ok.ensures.failures (c.self.invariant.words works);
   checkpointer = c.self.invariant.checkpointer;
   sealed = λ rooting. c.bring.ensures.went.sealed (c.self.invariant.sealed rooting);
@@ -47,7 +49,9 @@ invariant_of-self-in-Err g c = record {
   lawful = c.bring.ensures.lawful;
   few = c.self.invariant.few;
   room = c.self.invariant.room;
-  journal = λ _. c.self.invariant.journal c.if-self.false;
+  journals = λ _. c.self.invariant.journals c.if-self.false;
+  fits = λ _. c.self.invariant.fits c.if-self.false;
+  counting = c.self.invariant.counting;
   words = search rules;
   checkpointer = λ _. c.self.invariant.checkpointer c.if-self.false;
   sealed = λ rooting. c.bring.ensures.went.sealed (c.self.invariant.sealed rooting);
@@ -91,7 +95,7 @@ returns-in-Ok-clause-done g c =
     let page = c.get.result in
     rw (← c.self.view_is) (record {
       moves = record {
-        same = record { journal = refl; root0 = refl; root1 = refl; committed = refl; frozen = refl; durable = refl; progress = refl; in_doubt = refl };
+        same = record { journals = record { journal0 = refl; journal1 = refl; turns = refl }; counted = refl; root0 = refl; root1 = refl; committed = refl; frozen = refl; durable = refl; progress = refl; in_doubt = refl };
         pending = refl;
         detector = c.bring.ensures.rest;
         works = works;
@@ -118,7 +122,7 @@ returns-in-Err-clause-done g c =
     let told : c.is_broken-self-inside.result ≡ pools.is_broken after = search rules in
     rw (← c.self.view_is) (record {
       moves = record {
-        same = record { journal = refl; root0 = refl; root1 = refl; committed = refl; frozen = refl; durable = refl; progress = refl; in_doubt = refl };
+        same = record { journals = record { journal0 = refl; journal1 = refl; turns = refl }; counted = refl; root0 = refl; root1 = refl; committed = refl; frozen = refl; durable = refl; progress = refl; in_doubt = refl };
         pending = refl;
         detector = c.bring.ensures.rest;
         works = tt;

@@ -63,7 +63,9 @@ invariant_of-self g c =
       lawful = subst (λ (f : List (ℕ × Frame)). AreWithin f (length c.self.inside.detector.segments) (length c.self.inside.detector.sets.sets)) (sym frames) c.self.invariant.lawful;
       few = c.self.invariant.few;
       room = c.self.invariant.room;
-      journal = c.self.invariant.journal;
+      journals = c.self.invariant.journals;
+      fits = c.self.invariant.fits;
+      counting = c.self.invariant.counting;
       words = λ works. broken ∙ c.self.invariant.words works;
       checkpointer = λ _. c.in-Ok.ensures.works;
       sealed = λ rooting. absurd (true≢false (sym rooting ∙ ap (λ (p : Phase). is_rooting p) c.in-Ok.ensures.opened));
@@ -73,7 +75,7 @@ invariant_of-self g c =
           let w = k.1.works works in
           let r = progress_at g.D.Disk _ k.0 k.1 works phase.Written c.in-Ok.ensures.phase.1 in
           let from = rw c.words_mut.ensures.value at c.in-Ok.ensures.stands in
-          (at_opened g.D.Disk _ k.0 k.1 works r, succeeded_as g.D.Disk _ k.0 k.1 works r c.open_root.new.self c.open_root.new.pool c.self.inside.is_broken same c.in-Ok.ensures.opened c.in-Ok.ensures.number.1 (from k.0.now.checkpoint k.0.now.former r.next w.stands r.is_next));
+          (at_opened g.D.Disk _ k.0 k.1 works r, succeeded_as g.D.Disk _ k.0 k.1 works r c.open_root.new.self c.open_root.new.pool c.self.inside.counting c.self.inside.is_broken same c.in-Ok.ensures.opened c.in-Ok.ensures.number.1 c.self.invariant.counting (from k.0.now.checkpoint k.0.now.former r.next w.stands r.is_next));
     }
 
 pub invariant_of-self-in-Err : goal.invariant_of-self-in-Err
@@ -86,7 +88,9 @@ invariant_of-self-in-Err g c =
       lawful = subst (λ (f : List (ℕ × Frame)). AreWithin f (length c.self.inside.detector.segments) (length c.self.inside.detector.sets.sets)) (sym frames) c.self.invariant.lawful;
       few = c.self.invariant.few;
       room = c.self.invariant.room;
-      journal = λ no. absurd (true≢false no);
+      journals = λ no. absurd (true≢false no);
+      fits = λ no. absurd (true≢false no);
+      counting = c.self.invariant.counting;
       words = λ no. absurd (true≢false no);
       checkpointer = λ no. absurd (true≢false no);
       sealed = λ rooting. subst (λ (p : Pool g.row.D.Denot). IsTrue p.is_sealed) (sym same) (c.self.invariant.sealed (subst (λ (p : Phase). is_rooting p ≡ true) c.in-Err.ensures.refused_phase rooting));

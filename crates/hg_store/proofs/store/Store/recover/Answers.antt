@@ -4,7 +4,7 @@ use Rattle.hg_model.specs.Contents.{Content}
 use Rattle.hg_model.specs.declared.verdict.Refusal.TheVariants.{Damaged, FullSets, FullSlots}
 use Rattle.hg_detect.specs.Shown.{content}
 use Rattle.hg_pool.specs.Maps.{live}
-use Rattle.hg_contents.specs.Images.{HasContent, Image}
+use Rattle.hg_images.specs.Images.{HasContent, Image}
 use Rattle.hg_store.specs.Recovering.{HasFewSets, HasTable, LacksSlots, made_of}
 use Rattle.hg_store.specs.Store.{IsFresh}
 use Rattle.hg_store.proofs.Recovering.{few_calls, files_read, files_synced, lacks_before, only_synced, read_once, reads_same, same_or_fault, same_read, same_settled, slots_read, slots_synced, synced_first}

@@ -1,7 +1,7 @@
 use Rattle.std.proofs.Common.{ap, ◌∙◌}
 use Rattle.hg_store.specs.Shown.{ShownStore}
 use Rattle.hg_store.specs.Store.{Backs}
-use Rattle.hg_store.proofs.Backing.{backs_of, counts_all, newest_of}
+use Rattle.hg_store.proofs.Backing.{backs_of, counts_all, events_of, newest_of}
 use Rattle.hg_store.proofs.store.Store.stands.Goals as goal
 
 pub returns-clause-backs : goal.returns-clause-backs
@@ -17,3 +17,8 @@ pub returns-clause-newest : goal.returns-clause-newest
 returns-clause-newest g c honest works =
     let k = c.self.invariant.stands honest in
     rw (← c.self.view_is) (newest_of g.D.Disk _ k.0 k.1 (ap (λ (s : ShownStore g.row.D.Denot). s.is_broken) c.self.view_is ∙ works))
+
+pub returns-clause-kept : goal.returns-clause-kept
+returns-clause-kept g c honest works =
+    let k = c.self.invariant.stands honest in
+    rw (← c.self.view_is) (events_of g.D.Disk _ k.0 k.1 (ap (λ (s : ShownStore g.row.D.Denot). s.is_broken) c.self.view_is ∙ works))
