@@ -135,6 +135,9 @@ abbrev pub serve : App
 serve = with_rule (with_rule (with_rule (with_rule (with_rule (with_rule (with_rule (with_rule (new_app (codes "serve")) (directory true)) port)
     connections) workers) frames) every) silence) verbose
 
+abbrev pub migrate : App
+migrate = with_rule (new_app (codes "migrate")) (directory true)
+
 -- `hgd --version` tells the version, and one of the commands is wanted
 abbrev pub start : App
 start = let new = new_app (codes "hgd") in
@@ -143,4 +146,4 @@ start = let new = new_app (codes "hgd") in
 -- `hgd` and its commands
 abbrev pub hgd : App
 hgd = with_subcommand (with_subcommand (with_subcommand (with_subcommand (with_subcommand (with_subcommand (with_subcommand
-    start check.top) graph.top) explain.top) create.top) feed.top) reports.top) serve.top
+    (with_subcommand start check.top) graph.top) explain.top) create.top) feed.top) reports.top) serve.top) migrate.top

@@ -123,6 +123,7 @@ IsStoreTask name rows (store.Reports frames status verbose) = (name ≡ codes "r
 IsStoreTask name rows (store.Feed source frames jobs checkpoint verbose) = (name ≡ codes "feed") × IsSource rows source × AreFrames rows frames
     × AreJobs rows jobs × IsFlag (codes "checkpoint") rows checkpoint × IsFlag (codes "verbose") rows verbose
 IsStoreTask name rows (store.Serve serving) = (name ≡ codes "serve") × AreServing rows serving
+IsStoreTask name rows store.Migrate = name ≡ codes "migrate"
 
 -- what the command `name` with these arguments asks for
 abbrev pub IsTask : Text × List Row → Task → Type 0

@@ -235,6 +235,19 @@ fn serve<'a>(alloc: Global) -> Result<Command<'a>, AllocError>
     with_argument(with_silence, flag(alloc, VERBOSE_FLAG))
 }
 
+/// `migrate DIR`.
+fn migrate<'a>(alloc: Global) -> Result<Command<'a>, AllocError>
+    ensures app { IfOk result (λ c. app_of c ≡ spec.migrate) }
+    ensures local { IfOk result HasNoGlobals }
+{
+    let begun = command(
+        alloc,
+        "migrate",
+        "Gives two journals to a store that was made with one, named `journal`",
+    );
+    with_argument(Ok(begun), directory(alloc, true))
+}
+
 /// The command line of `hgd`, without its commands. `version` is what `--version` tells.
 fn start<'a>(alloc: Global, version: &'a str) -> Command<'a>
     ensures app { app_of result ≡ spec.start }
@@ -288,5 +301,6 @@ pub fn hgd<'a>(alloc: Global, version: &'a str) -> Result<Command<'a>, AllocErro
     let creating = with_command(explaining, create(alloc));
     let feeding = with_command(creating, feed(alloc));
     let reporting = with_command(feeding, reports(alloc));
-    with_command(reporting, serve(alloc))
+    let serving = with_command(reporting, serve(alloc));
+    with_command(serving, migrate(alloc))
 }

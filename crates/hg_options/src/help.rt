@@ -18,7 +18,7 @@ skipped. A line has at most 256 bytes.
 Status:
   0  the whole trace was read, races or not; with --error-exitcode only where there are none
   2  the last line printed is `refused line N code C`, of an event that the rules refuse; `bad line N`, of a line
-     that is no event; or `not empty`, where `create` found bytes; or there is no race of the number of --race
+     that is no event; or `not empty`, where `create` or `migrate` found bytes; or there is no race of that number
   3  a fault, told on standard error as `fault C`
   4  a bad command line
 

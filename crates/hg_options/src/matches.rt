@@ -246,6 +246,7 @@ fn store_task(name: &str, given: &ArgMatches<'_>) -> Result<StoreTask, Misread>
             let serving = serving(given)?;
             Ok(StoreTask::Serve { serving })
         }
+        "migrate" => Ok(StoreTask::Migrate),
         _ => Err(Misread::Incomplete),
     }
 }

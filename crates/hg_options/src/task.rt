@@ -61,6 +61,8 @@ pub enum StoreTask {
     Serve {
         serving: Serving,
     },
+    /// A store with two journals, made of one with one journal.
+    Migrate,
 }
 
 /// How a word is named.

@@ -8,7 +8,8 @@ returns-clause-app c =
     let creating_is = c.with_command-creating.ensures.app c.create.ensures.local _ _ explaining_is c.create.ensures.app in
     let feeding_is = c.with_command-feeding.ensures.app c.feed.ensures.local _ _ creating_is c.feed.ensures.app in
     let reporting_is = c.with_command-reporting.ensures.app c.reports.ensures.local _ _ feeding_is c.reports.ensures.app in
-    c.with_command.ensures.app c.serve.ensures.local _ _ reporting_is c.serve.ensures.app
+    let serving_is = c.with_command-serving.ensures.app c.serve.ensures.local _ _ reporting_is c.serve.ensures.app in
+    c.with_command.ensures.app c.migrate.ensures.local _ _ serving_is c.migrate.ensures.app
 
 pub returns-clause-local : goal.returns-clause-local
 returns-clause-local c =
@@ -18,4 +19,5 @@ returns-clause-local c =
     let creating_is = c.with_command-creating.ensures.local explaining_is c.create.ensures.local in
     let feeding_is = c.with_command-feeding.ensures.local creating_is c.feed.ensures.local in
     let reporting_is = c.with_command-reporting.ensures.local feeding_is c.reports.ensures.local in
-    c.with_command.ensures.local reporting_is c.serve.ensures.local
+    let serving_is = c.with_command-serving.ensures.local reporting_is c.serve.ensures.local in
+    c.with_command.ensures.local serving_is c.migrate.ensures.local
