@@ -79,6 +79,18 @@ fn see_that_it_is_a_file(rt: &HostRuntime, path: &str) -> io::Result<()> {
     }
 }
 
+/// Whether a directory has a store of the former form, with one journal in a file `journal`: it has that file, and no `journal0`. Where
+/// there is no memory to look, it has not.
+pub fn has_former_store(rt: &HostRuntime, directory: &str) -> bool {
+    let (Ok(former), Ok(journal0)) = (
+        path_of(rt, directory, "journal"),
+        path_of(rt, directory, "journal0"),
+    ) else {
+        return false;
+    };
+    fs::metadata(rt, former.as_str()).is_ok() && fs::metadata(rt, journal0.as_str()).is_err()
+}
+
 /// How a file is opened.
 fn options_of(mode: OpenMode) -> OpenOptions
     ensures { result ≡ options_for mode }
@@ -117,7 +129,7 @@ fn open_file(
 }
 
 /// Locks a file for what is done to its store, at once or not at all.
-fn lock(file: &File, mode: OpenMode) -> Result<(), OpenFault>
+fn lock(name: &'static str, file: &File, mode: OpenMode) -> Result<(), OpenFault>
     ensures { IfErr result (λ f. f.cause ≡ Cause.DeviceFault) }
 {
     let locked = match mode {
@@ -128,9 +140,9 @@ fn lock(file: &File, mode: OpenMode) -> Result<(), OpenFault>
         Ok(()) => Ok(()),
         Err(TryLockError::WouldBlock) => {
             let error = io::Error::new(ErrorKind::WouldBlock, "another program uses the store");
-            Err(failed("journal", error))
+            Err(failed(name, error))
         }
-        Err(TryLockError::Error(error)) => Err(failed("journal", error)),
+        Err(TryLockError::Error(error)) => Err(failed(name, error)),
     }
 }
 
@@ -151,13 +163,18 @@ fn device(name: &'static str, file: Option<File>, mode: OpenMode) -> Result<File
     }
 }
 
-/// Opens the journal, and locks it before anything of it is read.
-fn open_journal(rt: &HostRuntime, directory: &str, mode: OpenMode) -> Result<FileDisk, OpenFault> {
-    let file = open_file(rt, directory, "journal", mode)?;
+/// Opens the file that has the lock of a store, and locks it before anything of the store is read.
+fn open_locked(
+    rt: &HostRuntime,
+    directory: &str,
+    name: &'static str,
+    mode: OpenMode,
+) -> Result<FileDisk, OpenFault> {
+    let file = open_file(rt, directory, name, mode)?;
     if let Some(file) = &file {
-        lock(file, mode)?;
+        lock(name, file, mode)?;
     }
-    device("journal", file, mode)
+    device(name, file, mode)
 }
 
 /// Makes a file's bytes durable, or a folder's names.
@@ -181,8 +198,8 @@ fn open_pages(rt: &HostRuntime, directory: &str, mode: OpenMode) -> Result<FileD
     device("pages", pages, mode)
 }
 
-/// Opens one of the two roots.
-fn open_root(
+/// Opens another file.
+fn open_unlocked(
     rt: &HostRuntime,
     directory: &str,
     name: &'static str,
@@ -198,17 +215,18 @@ fn open_files(
     mode: OpenMode,
 ) -> Result<Devices<FileDisk>, OpenFault> {
     Ok(Devices {
-        journal: open_journal(rt, directory, mode)?,
+        journal0: open_locked(rt, directory, "journal0", mode)?,
+        journal1: open_unlocked(rt, directory, "journal1", mode)?,
         slots: open_pages(rt, directory, mode)?,
-        root0: open_root(rt, directory, "root0", mode)?,
-        root1: open_root(rt, directory, "root1", mode)?,
+        root0: open_unlocked(rt, directory, "root0", mode)?,
+        root1: open_unlocked(rt, directory, "root1", mode)?,
     })
 }
 
-/// Opens the files of a store's directory: `journal`, `pages`, `root0` and `root1`. Only `OpenMode::Make` makes files; for
-/// another mode a file that is missing is read as an empty one. With `OpenMode::Look` each is opened for reading. The journal is
-/// locked, so that the store is used by one program that changes it, or by programs that look at it. `DeviceFault` says that a
-/// file can't be opened, or that another program uses the store.
+/// Opens the files of a store's directory: `journal0`, `journal1`, `pages`, `root0` and `root1`. Only `OpenMode::Make` makes files; for
+/// another mode a file that is missing is read as an empty one. With `OpenMode::Look` each is opened for reading. The file `journal0` is
+/// locked, whichever journal is the current one, so that the store is used by one program that changes it, or by programs that look at it.
+/// `DeviceFault` says that a file can't be opened, or that another program uses the store.
 ///
 /// No file gets a descriptor of a standard stream that is closed: those are filled while the files are opened.
 pub fn open_directory(
@@ -242,13 +260,15 @@ pub fn look_at_directory<'a>(
 ) -> Result<Devices<LookDisk<'a>>, OpenFault> {
     let scratch = scratch_of(rt)?;
     let Devices {
-        journal,
+        journal0,
+        journal1,
         slots,
         root0,
         root1,
     } = open_directory(rt, directory, OpenMode::Look)?;
     Ok(Devices {
-        journal: LookDisk::new(journal, None),
+        journal0: LookDisk::new(journal0, None),
+        journal1: LookDisk::new(journal1, None),
         slots: LookDisk::new(slots, Some(scratch)),
         root0: LookDisk::new(root0, None),
         root1: LookDisk::new(root1, None),

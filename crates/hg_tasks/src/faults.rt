@@ -3,14 +3,14 @@ ghost use Rattle.std.specs.Prelude.{◌≡◌};
 ghost use Rattle.hg_streams.specs.Faults.{IsTold};
 ghost use Rattle.hg_tasks.specs.Faults.{refusal_for};
 
-use crate::directory::{Cause, OpenFault};
+use crate::directory::{Cause, OpenFault, has_former_store};
 use crate::look::LookDisk;
 use hg_disk::{Disk, FileDisk};
 use hg_model::verdict::Refusal;
 use hg_store::devices::Devices;
 use hg_streams::output::{Output, Outputs};
 use hg_streams::telling::end_by_fault;
-use hg_verbose::fault::{Source, damage, replay};
+use hg_verbose::fault::{Source, damage, kept_past};
 use hg_verbose::last::{Last, last_of};
 use hg_verbose::lines::Lines;
 use hg_verbose::meaning::{of_damage, of_fault, of_line};
@@ -112,10 +112,14 @@ pub fn tell_of_text<R, W, V>(
     }
 }
 
+/// What is told of a store of the former form.
+const FORMER_STORE: &str = "the store: it has one journal, and `hgd migrate` gives it two";
+
 /// The system's error of the first call that failed, of each file of a store.
 #[derive(Clone, Copy, Drop)]
 struct FileErrors {
-    journal: Option<io::Error>,
+    journal0: Option<io::Error>,
+    journal1: Option<io::Error>,
     pages: Option<io::Error>,
     root0: Option<io::Error>,
     root1: Option<io::Error>,
@@ -124,7 +128,8 @@ struct FileErrors {
 /// Those of files that were changed.
 fn errors_of_files(devices: &Devices<FileDisk>) -> FileErrors {
     FileErrors {
-        journal: devices.journal.error(),
+        journal0: devices.journal0.error(),
+        journal1: devices.journal1.error(),
         pages: devices.slots.error(),
         root0: devices.root0.error(),
         root1: devices.root1.error(),
@@ -134,29 +139,36 @@ fn errors_of_files(devices: &Devices<FileDisk>) -> FileErrors {
 /// Those of files that were looked at.
 fn errors_of_looks(devices: &Devices<LookDisk<'_>>) -> FileErrors {
     FileErrors {
-        journal: devices.journal.error(),
+        journal0: devices.journal0.error(),
+        journal1: devices.journal1.error(),
         pages: devices.slots.error(),
         root0: devices.root0.error(),
         root1: devices.root1.error(),
     }
 }
 
-/// Tells which device of a store is not a store's.
-fn tell_damage<D: Disk + Drop>(rt: &HostRuntime, devices: Devices<D>) {
+/// Tells which device of the store in a directory is not a store's, or that the store is one of the former form.
+fn tell_damage<D: Disk + Drop>(rt: &HostRuntime, directory: &str, devices: Devices<D>) {
+    if has_former_store(rt, directory) {
+        print(rt, of_damage(rt.alloc(), FORMER_STORE));
+        return;
+    }
     let Devices {
-        journal,
+        journal0,
+        journal1,
         slots: _,
         root0,
         root1,
     } = devices;
-    let place = damage(rt.alloc(), journal, root0, root1);
+    let place = damage(rt.alloc(), journal0, journal1, root0, root1);
     print(rt, of_damage(rt.alloc(), place));
 }
 
-/// Tells a fault of a command on a store. `input` and `output` are the errors of its streams, if any; `pages` is the name of the file with
+/// Tells a fault of a command on the store in a directory. `input` and `output` are the errors of its streams, if any; `pages` is the name of the file with
 /// the slots.
 fn tell_fault_of_store<D: Disk + Drop>(
     rt: &HostRuntime,
+    directory: &str,
     code: u64,
     input: Option<io::Error>,
     output: Option<io::Error>,
@@ -167,21 +179,23 @@ fn tell_fault_of_store<D: Disk + Drop>(
     let sources = [
         source("standard input", input),
         source("standard output", output),
-        source("journal", errors.journal),
+        source("journal0", errors.journal0),
+        source("journal1", errors.journal1),
         source(pages, errors.pages),
         source("root0", errors.root0),
         source("root1", errors.root1),
     ];
     if code == 11 {
-        tell_damage(rt, devices);
+        tell_damage(rt, directory, devices);
     } else {
         tell_fault(rt, code, &sources);
     }
 }
 
-/// Tells the last line of a command that lists a store.
+/// Tells the last line of a command that lists the store in a directory.
 pub fn tell_of_listing<W, V>(
     rt: &HostRuntime,
+    directory: &str,
     outputs: &Outputs<NotedWriter<W>, NotedWriter<V>>,
     devices: Devices<LookDisk<'_>>,
 ) {
@@ -189,48 +203,43 @@ pub fn tell_of_listing<W, V>(
         let output = outputs.output.stream().error();
         let errors = errors_of_looks(&devices);
         let pages = "pages, or its copy";
-        tell_fault_of_store(rt, code, None, output, pages, errors, devices);
+        tell_fault_of_store(rt, directory, code, None, output, pages, errors, devices);
     }
 }
 
-/// Tells the last line of a server.
+/// Tells the last line of a server of the store in a directory.
 pub fn tell_of_serving<W, V>(
     rt: &HostRuntime,
+    directory: &str,
     outputs: &Outputs<NotedWriter<W>, NotedWriter<V>>,
     devices: Devices<FileDisk>,
 ) {
     if let Some(Last::Fault { code }) = last_line(&outputs.output, &outputs.faults) {
         let output = outputs.output.stream().error();
         let errors = errors_of_files(&devices);
-        tell_fault_of_store(rt, code, None, output, "pages", errors, devices);
+        tell_fault_of_store(rt, directory, code, None, output, "pages", errors, devices);
     }
 }
 
-/// What the events of a store left, if they can be read again.
-fn past_of(rt: &HostRuntime, devices: Devices<FileDisk>) -> Option<Past> {
-    let mut past = Past::new(rt.alloc()).ok()?;
+/// Prints what the last line means, of a command that fed these lines to a store. What the store's events left says it, if they can be
+/// read again.
+fn print_of_fed_line(rt: &HostRuntime, last: Last, lines: &mut Lines, devices: Devices<FileDisk>) {
     let Devices {
-        journal,
+        journal0,
+        journal1,
         slots: _,
         root0: _,
         root1: _,
     } = devices;
-    match replay(rt.alloc(), journal, &mut past) {
-        Ok(()) => Some(past),
-        Err(_) => None,
-    }
-}
-
-/// Prints what the last line means, of a command that fed these lines to a store.
-fn print_of_fed_line(rt: &HostRuntime, last: Last, lines: &mut Lines, devices: Devices<FileDisk>) {
-    if let Some(past) = past_of(rt, devices) {
+    if let Ok(past) = kept_past(rt.alloc(), journal0, journal1) {
         print_of_line(rt, last, lines, Some(&past));
     }
 }
 
-/// Tells the last line of a command that fed a text to a store.
+/// Tells the last line of a command that fed a text to the store in a directory.
 pub fn tell_of_feeding<R, W, V>(
     rt: &HostRuntime,
+    directory: &str,
     input: &mut NotedReader<R>,
     output: &Output<NotedWriter<W>>,
     faults: &Output<NotedWriter<V>>,
@@ -240,7 +249,7 @@ pub fn tell_of_feeding<R, W, V>(
         Some(Last::Fault { code }) => {
             let (input, output) = (input.error(), output.stream().error());
             let errors = errors_of_files(&devices);
-            tell_fault_of_store(rt, code, input, output, "pages", errors, devices);
+            tell_fault_of_store(rt, directory, code, input, output, "pages", errors, devices);
         }
         Some(last) => print_of_fed_line(rt, last, input.lines(), devices),
         None => {}

@@ -47,10 +47,11 @@ pub fn create_in(rt: &HostRuntime, directory: &str) -> u8 {
     create_store(rt.alloc(), devices, &mut outputs).status
 }
 
-/// Feeds the trace on standard input to the store on these devices, and tells what the last line means.
+/// Feeds the trace on standard input to the store on these devices, those of a directory, and tells what the last line means.
 fn feed_and_tell<T: Threads + Sync>(
     threads: &T,
     rt: &HostRuntime,
+    directory: &str,
     devices: Devices<FileDisk>,
     settings: FeedSettings,
     lines: Lines,
@@ -65,6 +66,7 @@ fn feed_and_tell<T: Threads + Sync>(
     } = streams;
     tell_of_feeding(
         rt,
+        directory,
         &mut input.into_stream(),
         &output,
         &faults,
@@ -88,7 +90,7 @@ pub fn feed_in<T: Threads + Sync>(
     };
     if verbose {
         if let Ok(lines) = Lines::new(rt.alloc()) {
-            return feed_and_tell(threads, rt, devices, settings, lines);
+            return feed_and_tell(threads, rt, directory, devices, settings, lines);
         }
     }
     let mut streams = plain_streams(rt);
@@ -135,7 +137,7 @@ pub fn print_of_store(
         &mut outputs,
     );
     if verbose {
-        tell_of_listing(rt, &outputs, devices);
+        tell_of_listing(rt, directory, &outputs, devices);
     }
     status
 }

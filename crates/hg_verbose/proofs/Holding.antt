@@ -8,23 +8,23 @@ use Rattle.hg_verbose.specs.declared.holds.Hold.{Hold}
 use Rattle.hg_verbose.specs.Holds.{BeginsHold, IsHeld, LetsGo}
 
 -- an event that lets nothing go
-pub still_held : (e : Event) (earlier : List Event) (holds : List Hold) → ((h : Hold) → LetsGo e h → ⊥) → AllByRecursion (IsHeld earlier) holds → AllByRecursion (IsHeld (e ∷ earlier)) holds
-still_held e earlier [] keeps all = tt
-still_held e earlier (h ∷ holds) keeps all = (inr (all.0, keeps h), still_held e earlier holds keeps all.1)
+pub still_held : (e : Event) (gone : ℕ) (earlier : List Event) (holds : List Hold) → ((h : Hold) → LetsGo e h → ⊥) → AllByRecursion (IsHeld gone earlier) holds → AllByRecursion (IsHeld gone (e ∷ earlier)) holds
+still_held e gone earlier [] keeps all = tt
+still_held e gone earlier (h ∷ holds) keeps all = (inr (all.0, keeps h), still_held e gone earlier holds keeps all.1)
 
 -- an event that takes a lock
-pub one_more_held : (e : Event) (earlier : List Event) (holds : List Hold) (h : Hold) → ((h : Hold) → LetsGo e h → ⊥) → BeginsHold e h → h.since ≡ length earlier + 1 → AllByRecursion (IsHeld earlier) holds
-    → AllByRecursion (IsHeld (e ∷ earlier)) (holds ++ h ∷ [])
-one_more_held e earlier [] h keeps takes since all = (inl (takes, since), tt)
-one_more_held e earlier (g ∷ holds) h keeps takes since all = (inr (all.0, keeps g), one_more_held e earlier holds h keeps takes since all.1)
+pub one_more_held : (e : Event) (gone : ℕ) (earlier : List Event) (holds : List Hold) (h : Hold) → ((h : Hold) → LetsGo e h → ⊥) → BeginsHold e h → h.since ≡ gone + length earlier + 1 → AllByRecursion (IsHeld gone earlier) holds
+    → AllByRecursion (IsHeld gone (e ∷ earlier)) (holds ++ h ∷ [])
+one_more_held e gone earlier [] h keeps takes since all = (inl (takes, since), tt)
+one_more_held e gone earlier (g ∷ holds) h keeps takes since all = (inr (all.0, keeps g), one_more_held e gone earlier holds h keeps takes since all.1)
 
 -- an event that lets a lock go
-pub others_held : (t l : ℕ) (earlier : List Event) (holds : List Hold) → AllByRecursion (IsHeld earlier) holds
-    → AllByRecursion (IsHeld (Unlock t l ∷ earlier)) (filter (λ h. not ((h.thread == t) && (h.lock == l))) holds)
-others_held t l earlier [] all = tt
-others_held t l earlier (h ∷ holds) all =
-    let rest = others_held t l earlier holds all.1 in
-    let P : List Hold → Type 0 = AllByRecursion (IsHeld (Unlock t l ∷ earlier)) in
+pub others_held : (t l : ℕ) (gone : ℕ) (earlier : List Event) (holds : List Hold) → AllByRecursion (IsHeld gone earlier) holds
+    → AllByRecursion (IsHeld gone (Unlock t l ∷ earlier)) (filter (λ h. not ((h.thread == t) && (h.lock == l))) holds)
+others_held t l gone earlier [] all = tt
+others_held t l gone earlier (h ∷ holds) all =
+    let rest = others_held t l gone earlier holds all.1 in
+    let P : List Hold → Type 0 = AllByRecursion (IsHeld gone (Unlock t l ∷ earlier)) in
     elim (cases_Bool (not ((h.thread == t) && (h.lock == l)))) [
       | inl other ↦ subst P (sym (cond-true _ _ _ other)) (
         inr (

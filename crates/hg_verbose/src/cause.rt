@@ -1,6 +1,6 @@
 //! Why the rules refuse an event, in words.
 ghost use Rattle.std.specs.Prelude.{◌≡◌, [], OnOk};
-ghost use Rattle.hg_verbose.specs.Causes.{done_text, first_text, hold_text, mode_text, others_text};
+ghost use Rattle.hg_verbose.specs.Causes.{done_by_text, done_text, first_text, hold_text, mode_text, others_text, some_text, unknown_text};
 ghost use Rattle.hg_verbose.specs.Numbers.{Gains, number_text};
 
 use crate::holds::Hold;
@@ -91,15 +91,62 @@ fn put_others(count: usize, text: &mut String) -> Result<(), AllocError>
     put_number(", and there are ", count as u64 - 1, " holds more", text)
 }
 
-/// Appends the first of some locks that are held, and how many there are more.
-fn put_first(first: Option<Hold>, count: usize, text: &mut String) -> Result<(), AllocError>
-    ensures { OnOk result (Gains text.old text.new (first_text first count)) }
+/// Appends that more locks may be held since the event numbered `gone` or before.
+fn put_unknown(gone: u64, text: &mut String) -> Result<(), AllocError>
+    ensures { OnOk result (Gains text.old text.new (unknown_text gone)) }
+{
+    if gone == 0 {
+        return Ok(());
+    }
+    put_number(
+        ", and there may be more since event ",
+        gone,
+        " or before",
+        text,
+    )
+}
+
+/// Appends that a lock is held, of which no event is known that took it.
+fn put_some(gone: u64, text: &mut String) -> Result<(), AllocError>
+    ensures { OnOk result (Gains text.old text.new (some_text gone)) }
+{
+    if gone == 0 {
+        return text.push_str("a lock is held");
+    }
+    put_number("a lock is held since event ", gone, " or before", text)
+}
+
+/// Appends the first of some locks that are held, and how many there are more. Of the events up to the one numbered `gone` nothing is
+/// known.
+fn put_first(
+    gone: u64,
+    first: Option<Hold>,
+    count: usize,
+    text: &mut String,
+) -> Result<(), AllocError>
+    ensures { OnOk result (Gains text.old text.new (first_text gone first count)) }
 {
     let Some(hold) = first else {
-        return text.push_str("a lock is held");
+        return put_some(gone, text);
     };
     put_hold(hold, text)?;
-    put_others(count, text)
+    put_others(count, text)?;
+    put_unknown(gone, text)
+}
+
+/// Appends that a thread is not alive, where no event is known that joined it.
+fn put_not_forked(gone: u64, thread: u64, text: &mut String) -> Result<(), AllocError> {
+    if gone == 0 {
+        return put_number("thread ", thread, " was never forked", text);
+    }
+    put_numbers(
+        "thread ",
+        thread,
+        " was joined at or before event ",
+        gone,
+        text,
+    )?;
+    text.push_str(", or never forked")
 }
 
 /// Appends that a thread is not alive.
@@ -107,7 +154,7 @@ fn put_not_alive(past: &Past, thread: u16, text: &mut String) -> Result<(), Allo
     let joined = past.joined(thread);
     let thread = u64::from(thread);
     if joined == 0 {
-        return put_number("thread ", thread, " was never forked", text);
+        return put_not_forked(past.gone(), thread, text);
     }
     put_numbers("thread ", thread, " was joined by event ", joined, text)
 }
@@ -146,32 +193,50 @@ fn put_used(past: &Past, thread: u16, text: &mut String) -> Result<(), AllocErro
     if thread == 0 {
         return text.push_str("thread 0 is there from the start");
     }
-    let forked = past.forked(thread);
-    put_numbers(
-        "thread ",
-        u64::from(thread),
-        " was forked by event ",
-        forked,
-        text,
-    )?;
+    let (how, event) = match past.forked(thread) {
+        0 => (" was forked at or before event ", past.gone()),
+        event => (" was forked by event ", event),
+    };
+    put_numbers("thread ", u64::from(thread), how, event, text)?;
     text.push_str(", and no number is used twice")
 }
 
 /// Appends which locks the joined thread holds.
 fn put_holds_of(past: &Past, thread: u16, text: &mut String) -> Result<(), AllocError> {
     let (first, count) = past.holds().of_thread(thread);
-    put_first(first, count, text)
+    put_first(past.gone(), first, count, text)
+}
+
+/// Up to which event nothing is known of those who may hold a lock beside this one. Beside one in write mode there is none.
+fn unknown_beside(past: &Past, first: Option<Hold>) -> u64 {
+    match first {
+        Some(hold) if hold.write => 0,
+        _ => past.gone(),
+    }
 }
 
 /// Appends who holds a lock.
 fn put_holders(past: &Past, lock: u16, text: &mut String) -> Result<(), AllocError> {
     let (first, count) = past.holds().of_lock(lock);
-    put_first(first, count, text)
+    put_first(unknown_beside(past, first), first, count, text)
 }
 
 /// Appends since when the thread holds the lock that it takes.
 fn put_held(past: &Past, thread: u16, lock: u16, text: &mut String) -> Result<(), AllocError> {
-    put_first(past.holds().of_both(thread, lock), 1, text)
+    let first = past.holds().of_both(thread, lock);
+    let gone = match first {
+        Some(_) => 0,
+        None => past.gone(),
+    };
+    put_first(gone, first, 1, text)
+}
+
+/// Appends that no thread holds a lock, where that is known.
+fn put_no_holder(gone: u64, text: &mut String) -> Result<(), AllocError> {
+    if gone == 0 {
+        return text.push_str(", and no thread does");
+    }
+    put_number(", and no thread took it behind event ", gone, "", text)
 }
 
 /// Appends that a thread doesn't hold a lock, and who does.
@@ -179,7 +244,7 @@ fn put_not_held(past: &Past, thread: u16, lock: u16, text: &mut String) -> Resul
     let (actor, wanted) = (u64::from(thread), u64::from(lock));
     put_numbers("thread ", actor, " does not hold lock ", wanted, text)?;
     let Some(hold) = past.holds().of_lock(lock).0 else {
-        return text.push_str(", and no thread does");
+        return put_no_holder(past.gone(), text);
     };
     text.push_str(", and ")?;
     put_hold(hold, text)
@@ -213,20 +278,34 @@ fn put_of_threads(
     }
 }
 
+/// Appends by which event something was done, where that is known.
+fn put_done_by(gone: u64, event: u64, text: &mut String) -> Result<(), AllocError>
+    ensures { OnOk result (Gains text.old text.new (done_by_text gone event)) }
+{
+    match (event, gone) {
+        (0, 0) => text.push_str(" before"),
+        (0, _) => put_number(" at or before event ", gone, "", text),
+        _ => put_number(" by event ", event, "", text),
+    }
+}
+
 /// Appends what was done with a message before, and by which event where that is known.
-fn put_done(message: u32, done: &str, event: u64, text: &mut String) -> Result<(), AllocError>
-    ensures { OnOk result (Gains text.old text.new (done_text message done.now event)) }
+fn put_done(
+    gone: u64,
+    message: u32,
+    done: &str,
+    event: u64,
+    text: &mut String,
+) -> Result<(), AllocError>
+    ensures { OnOk result (Gains text.old text.new (done_text gone message done.now event)) }
 {
     put_number("message ", u64::from(message), done, text)?;
-    if event == 0 {
-        return text.push_str(" before");
-    }
-    put_number(" by event ", event, "", text)
+    put_done_by(gone, event, text)
 }
 
 /// Appends that a message was sent before.
 fn put_sent(past: &Past, message: u32, text: &mut String) -> Result<(), AllocError> {
-    put_done(message, " was sent", past.sent(message), text)?;
+    put_done(past.gone(), message, " was sent", past.sent(message), text)?;
     text.push_str(", and no message is sent twice")
 }
 
@@ -237,7 +316,8 @@ fn put_not_sent(message: u32, text: &mut String) -> Result<(), AllocError> {
 
 /// Appends that a message was received before.
 fn put_taken(past: &Past, message: u32, text: &mut String) -> Result<(), AllocError> {
-    put_done(message, " was received", past.received(message), text)?;
+    let event = past.received(message);
+    put_done(past.gone(), message, " was received", event, text)?;
     text.push_str(", and no message is received twice")
 }
 
@@ -252,6 +332,10 @@ fn put_past_the_end(event: Event, text: &mut String) -> Result<(), AllocError> {
 
 /// Appends that there may be no more segments.
 fn put_full_graph(past: &Past, text: &mut String) -> Result<(), AllocError> {
+    if past.gone() != 0 {
+        let most = u64::from(MOST_SEGMENTS);
+        return put_number("there would be more than ", most, " segments", text);
+    }
     put_numbers(
         "there are ",
         past.segments(),

@@ -3,7 +3,7 @@
 use crate::past::Past;
 use crate::quoting::put_number;
 use hg_disk::Disk;
-use hg_journal::journal::Journal;
+use hg_journals::pair::JournalPair;
 use hg_model::verdict::Refusal;
 use hg_pages::MOST_SLOTS;
 use hg_sets::MOST_SETS;
@@ -60,36 +60,46 @@ pub fn put_fault(code: u64, sources: &[Source<'_>], text: &mut String) -> Result
 }
 
 /// The device that is not a store's, and why, where the devices together have no content.
-pub fn damage<D: Disk + Drop>(alloc: Global, journal: D, root0: D, root1: D) -> &'static str {
+pub fn damage<D: Disk + Drop>(
+    alloc: Global,
+    journal0: D,
+    journal1: D,
+    root0: D,
+    root1: D,
+) -> &'static str {
     if root0.len() == 0 {
         return "root0: it is missing, or has no byte";
     }
     if root1.len() == 0 {
         return "root1: it is missing, or has no byte";
     }
-    if journal.len() == 0 {
-        return "journal: it is missing, or has no byte";
+    if journal0.len() == 0 {
+        return "journal0: it is missing, or has no byte";
     }
-    match Journal::attach(alloc, journal) {
-        Ok(_) => "journal, pages, root0 and root1: what they hold is no store's",
-        Err(_) => "journal: what it holds is no journal's",
+    if journal1.len() == 0 {
+        return "journal1: it is missing, or has no byte";
+    }
+    match JournalPair::attach(alloc, journal0, journal1) {
+        Ok(_) => { "journal0, journal1, pages, root0 and root1: what they hold is no store's" }
+        Err(_) => "journal0 and journal1: what they hold are no journals that go together",
     }
 }
 
-/// Adds the events of a journal to `past`.
-pub fn replay<D: Disk + Drop>(alloc: Global, journal: D, past: &mut Past) -> Result<(), Refusal> {
-    let mut journal = match Journal::attach(alloc, journal) {
-        Ok(journal) => journal,
-        Err((refusal, _)) => return Err(refusal),
+/// What the events of a store left, as far as its journals keep them.
+pub fn kept_past<D: Disk + Drop>(alloc: Global, journal0: D, journal1: D) -> Result<Past, Refusal> {
+    let mut pair = match JournalPair::attach(alloc, journal0, journal1) {
+        Ok(pair) => pair,
+        Err((refusal, ..)) => return Err(refusal),
     };
-    let mut reader = journal.events()?;
+    let mut past = Past::behind(alloc, pair.first_kept() - 1)?;
+    let mut reader = pair.events()?;
     for _ in 0..u64::MAX {
-        let Some(named) = journal.next(&mut reader)? else {
-            return Ok(());
+        let Some(named) = pair.next(&mut reader)? else {
+            return Ok(past);
         };
         if !past.follow(named.event) {
             return Err(Refusal::OutOfMemory);
         }
     }
-    Ok(())
+    Ok(past)
 }

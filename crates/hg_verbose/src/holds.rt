@@ -1,9 +1,9 @@
 //! The locks that are held after some events, and since when.
 
-ghost use Rattle.std.specs.Prelude.{◌≡◌, ◌∷◌, ◌++◌, [], ◌==◌, ◌&&◌, not, IfSome};
+ghost use Rattle.std.specs.Prelude.{◌≡◌, ◌+◌, ◌∷◌, ◌++◌, [], ◌==◌, ◌&&◌, not, length, IfSome};
 ghost use Rattle.std.specs.Bool.{OnTrue, OnFalse};
 ghost use Rattle.std.specs.List.{filter};
-ghost use Rattle.hg_verbose.specs.Holds.{HoldsFollow, IsHeld, IsOf};
+ghost use Rattle.hg_verbose.specs.Holds.{HoldsFollow, IsHeldNow, IsOf, after};
 
 use hg_model::event::Event;
 use hg_trail::Trail;
@@ -21,25 +21,28 @@ pub struct Hold {
     pub since: u64,
 }
 
-/// The locks that are held after some events. A contract sees the events, the newest first.
+/// The locks that were taken by some events and are held after them. A contract sees the events, the newest first, and the number of the
+/// last one before them.
 #[derive(Drop)]
 pub struct Holds {
     list: Vec<Hold>,
-    events: u64,
+    /// The number of the last event before those that were followed.
+    gone: u64,
+    /// The number of the last event that was followed.
+    last: u64,
     history: Trail<Event>,
 }
 
 impl Model for Holds {
-    ghost use Rattle.std.specs.Prelude.{◌≡◌, List, length};
+    ghost use Rattle.std.specs.Prelude.{◌≡◌, ◌+◌, length};
     ghost use Rattle.std.specs.List.{AllByRecursion};
-    ghost use Rattle.hg_model.specs.declared.event.Event.{Event as EventOf};
-    ghost use Rattle.hg_verbose.specs.Holds.{IsHeld};
+    ghost use Rattle.hg_verbose.specs.Holds.{Followed, IsHeld};
 
-    ghost Value = { List EventOf };
+    ghost Value = { Followed };
 
-    ghost view = { λ s. s.history };
+    ghost view = { λ s. record { gone = s.gone; events = s.history } };
 
-    ghost invariant = { λ s. (s.events ≡ length s.history) × AllByRecursion (IsHeld s.history) s.list.items };
+    ghost invariant = { λ s. (s.last ≡ s.gone + length s.history) × AllByRecursion (IsHeld s.gone s.history) s.list.items };
 }
 
 /// Adds a hold, unless memory is refused.
@@ -105,42 +108,52 @@ fn change(list: &mut Vec<Hold>, event: Event, since: u64) -> bool
 }
 
 impl Holds {
-    /// The holds before any event.
-    pub fn new(alloc: Global) -> Holds
-        ensures { result ≡ [] }
+    /// No hold, behind the event of this number: 0 is before any event.
+    pub fn behind(alloc: Global, gone: u64) -> Holds
+        ensures { result ≡ record { gone = gone; events = [] } }
     {
         Holds {
             list: Vec::new(alloc),
-            events: 0,
+            gone,
+            last: gone,
             history: Trail::new(),
         }
     }
 
-    /// How many events there were.
-    pub fn events(&self) -> u64 {
-        self.events
+    /// The number of the last event before those that were followed.
+    pub fn gone(&self) -> u64
+        ensures { result ≡ self.gone }
+    {
+        self.gone
+    }
+
+    /// The number of the last event.
+    pub fn last(&self) -> u64
+        ensures { result ≡ self.gone + length self.events }
+    {
+        self.last
     }
 
     /// Takes the next event, and answers whether there was room for it.
     pub fn follow(&mut self, event: Event) -> bool
-        ensures followed { OnTrue result (self.new ≡ event ∷ self.old) }
+        ensures followed { OnTrue result (self.new ≡ after event self.old) }
         ensures refused { OnFalse result (self.new ≡ self.old) }
     {
-        if self.events == u64::MAX {
+        if self.last == u64::MAX {
             return false;
         }
-        let since = self.events + 1;
+        let since = self.last + 1;
         if !change(&mut self.list, event, since) {
             return false;
         }
-        self.events = since;
+        self.last = since;
         self.history.push(event);
         true
     }
 
     /// The first hold of a thread, of a lock, or of both, and how many there are.
     fn held(&self, thread: Option<u16>, lock: Option<u16>) -> (Option<Hold>, usize)
-        ensures held { IfSome result.0 (λ h. IsHeld self.now h × IsOf thread lock h) }
+        ensures held { IfSome result.0 (λ h. IsHeldNow self.now h × IsOf thread lock h) }
     {
         let first = self
             .list
@@ -157,21 +170,21 @@ impl Holds {
 
     /// The first lock that a thread holds, and how many it holds.
     pub fn of_thread(&self, thread: u16) -> (Option<Hold>, usize)
-        ensures held { IfSome result.0 (λ h. IsHeld self.now h × (h.thread ≡ thread)) }
+        ensures held { IfSome result.0 (λ h. IsHeldNow self.now h × (h.thread ≡ thread)) }
     {
         self.held(Some(thread), None)
     }
 
     /// The first hold of a lock, and how many there are.
     pub fn of_lock(&self, lock: u16) -> (Option<Hold>, usize)
-        ensures held { IfSome result.0 (λ h. IsHeld self.now h × (h.lock ≡ lock)) }
+        ensures held { IfSome result.0 (λ h. IsHeldNow self.now h × (h.lock ≡ lock)) }
     {
         self.held(None, Some(lock))
     }
 
     /// A thread's hold of a lock.
     pub fn of_both(&self, thread: u16, lock: u16) -> Option<Hold>
-        ensures held { IfSome result (λ h. IsHeld self.now h × ((h.thread ≡ thread) × (h.lock ≡ lock))) }
+        ensures held { IfSome result (λ h. IsHeldNow self.now h × ((h.thread ≡ thread) × (h.lock ≡ lock))) }
     {
         self.held(Some(thread), Some(lock)).0
     }

@@ -8,7 +8,7 @@ use std::alloc::{AllocError, Global};
 use std::collections::HashMap;
 
 /// What some accepted events left: which locks are held since when, when each thread was forked and joined, and when each
-/// message was sent and received.
+/// message was sent and received. Those events begin behind the event numbered `gone`, of whose past nothing is known.
 #[derive(Drop)]
 pub struct Past {
     segments: u64,
@@ -58,9 +58,14 @@ fn at_message(events: &HashMap<u32, u64>, message: u32) -> u64 {
 impl Past {
     /// The past before any event.
     pub fn new(alloc: Global) -> Result<Past, AllocError> {
+        Past::behind(alloc, 0)
+    }
+
+    /// The past behind the event of this number, where nothing is known of the events up to that one.
+    pub fn behind(alloc: Global, gone: u64) -> Result<Past, AllocError> {
         Ok(Past {
             segments: 1,
-            holds: Holds::new(alloc),
+            holds: Holds::behind(alloc, gone),
             forked: vec![in alloc; 0; THREAD_NUMBERS]?,
             joined: vec![in alloc; 0; THREAD_NUMBERS]?,
             sent: HashMap::new(alloc),
@@ -73,7 +78,7 @@ impl Past {
         if !self.holds.follow(event) {
             return false;
         }
-        let number = self.holds.events();
+        let number = self.holds.last();
         match event {
             Event::Fork { p: _, c } => {
                 self.segments = self.segments.saturating_add(2);
@@ -96,32 +101,37 @@ impl Past {
         true
     }
 
+    /// The number of the last event of which nothing is known, 0 where all are known.
+    pub fn gone(&self) -> u64 {
+        self.holds.gone()
+    }
+
     /// The locks that are held.
     pub fn holds(&self) -> &Holds {
         &self.holds
     }
 
-    /// How many segments there are.
+    /// How many segments there are, where all events are known.
     pub fn segments(&self) -> u64 {
         self.segments
     }
 
-    /// The event that forked a thread, 0 where none did.
+    /// The event that forked a thread, 0 where none is known that did.
     pub fn forked(&self, thread: u16) -> u64 {
         at(self.forked.as_slice(), thread)
     }
 
-    /// The event that joined a thread, 0 where none did.
+    /// The event that joined a thread, 0 where none is known that did.
     pub fn joined(&self, thread: u16) -> u64 {
         at(self.joined.as_slice(), thread)
     }
 
-    /// The event that sent a message, 0 where none did.
+    /// The event that sent a message, 0 where none is known that did.
     pub fn sent(&self, message: u32) -> u64 {
         at_message(&self.sent, message)
     }
 
-    /// The event that received a message, 0 where none did.
+    /// The event that received a message, 0 where none is known that did.
     pub fn received(&self, message: u32) -> u64 {
         at_message(&self.received, message)
     }

@@ -95,11 +95,11 @@ fn serve_on<R: Threads + Wait + Clock + Sync>(
     };
     let mut outputs = noted_outputs(rt);
     let outcome = serve(threads, rt.alloc(), devices, &door, &mut outputs);
-    // The journal is still locked: no other server has made a socket meanwhile.
+    // The store is still locked: no other server has made a socket meanwhile.
     leave(rt, directory, serving.place);
     let status = outcome.status;
     if let (true, Err(devices)) = (serving.verbose, outcome.ended) {
-        tell_of_serving(rt, &outputs, devices);
+        tell_of_serving(rt, directory, &outputs, devices);
     }
     status
 }
