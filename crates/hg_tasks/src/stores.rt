@@ -1,9 +1,9 @@
 //! Commands on the store in a directory.
 
-ghost use Rattle.std.specs.Prelude.{◌≡◌, false};
+ghost use Rattle.std.specs.Prelude.{◌≡◌, IfOk, false, string_bytes};
 ghost use Rattle.hg_store.specs.Limits.{IsFrameCount};
 ghost use Rattle.hg_tasks.specs.Exits.{ListsAndExits};
-ghost use Rattle.hg_tasks.specs.Explaining.{ExplainsEvents, ExplainsStore, SaysNoRace};
+ghost use Rattle.hg_tasks.specs.Explaining.{ExplainsEvents, ExplainsStore, SaysGone, SaysNoRace, gone_text};
 
 use crate::directory::{OpenMode, look_at_directory, make_directory, open_directory};
 use crate::events::EventText;
@@ -19,6 +19,7 @@ use hg_commands::listing::{Listed, list_store};
 use hg_commands::races::{address_of_race, print_no_race};
 use hg_commands::settings::FeedSettings;
 use hg_disk::{Disk, FileDisk};
+use hg_model::verdict::Refusal;
 use hg_options::limits::DEFAULT_FRAMES;
 use hg_options::task::{ErrorExitcode, Explaining, Frames, Subject};
 use hg_store::devices::{Caps, Devices};
@@ -26,16 +27,18 @@ use hg_store::store::Store;
 use hg_streams::input::Input;
 use hg_streams::listing::Listing;
 use hg_streams::output::{Output, Outputs};
+use hg_streams::printing::print_now;
 use hg_streams::streams::Streams;
 use hg_streams::telling::end_by_fault;
 use hg_verbose::lines::Lines;
-use std::alloc::Global;
+use std::alloc::{AllocError, Global};
 use std::io::Write;
 use std::marker::Sync;
+use std::string::String;
 use std::thread::Threads;
 
-/// The status where a store has no such report.
-const NO_RACE: u8 = 2;
+/// The status where a store has no such report, or no longer has all events.
+const NOT_THERE: u8 = 2;
 
 /// Makes the store.
 pub fn create_in(rt: &HostRuntime, directory: &str) -> u8 {
@@ -174,12 +177,33 @@ fn say_no_race<D: Disk, W: Write, V: Write>(
     ensures { SaysNoRace ⟦<D as Disk>⟧ number store.now outputs.old outputs.new result }
 {
     match print_no_race(alloc, number, store, &mut outputs.output) {
-        Ok(()) => NO_RACE,
+        Ok(()) => NOT_THERE,
         Err(refusal) => end_by_fault(refusal, &mut outputs.faults),
     }
 }
 
-/// Prints the life of a word by the events of a store, or that there is no such report. Answers the status and the outputs.
+/// The line that tells up to which event a store no longer keeps its events.
+fn gone_line(alloc: Global, last: u64) -> Result<String, AllocError>
+    ensures { IfOk result (λ line. string_bytes line ≡ gone_text last) }
+{
+    format!(in alloc; "events 1 to {last} are no longer kept\n")
+}
+
+/// Prints up to which event a store no longer keeps its events, and answers the status.
+fn say_gone<W: Write, V: Write>(alloc: Global, last: u64, outputs: &mut Outputs<W, V>) -> u8
+    ensures { SaysGone last outputs.old outputs.new result }
+{
+    let Ok(line) = gone_line(alloc, last) else {
+        return end_by_fault(Refusal::OutOfMemory, &mut outputs.faults);
+    };
+    match print_now(line.as_bytes(), &mut outputs.output) {
+        Ok(()) => NOT_THERE,
+        Err(refusal) => end_by_fault(refusal, &mut outputs.faults),
+    }
+}
+
+/// Prints the life of a word by the events of a store, or that there is no such report, or that the first events are no longer kept. Answers
+/// the status and the outputs.
 fn explain_store<D: Disk + Drop, W: Write, V: Write>(
     alloc: Global,
     store: Store<D>,
@@ -190,6 +214,17 @@ fn explain_store<D: Disk + Drop, W: Write, V: Write>(
     ensures { ExplainsStore ⟦<D as Disk>⟧ store explaining outputs result }
 {
     let mut outputs = outputs;
+    let gone = match store.first_kept() {
+        Ok(first) => first - 1,
+        Err(refusal) => {
+            let status = end_by_fault(refusal, &mut outputs.faults);
+            return (status, outputs);
+        }
+    };
+    if gone > 0 {
+        let status = say_gone(alloc, gone, &mut outputs);
+        return (status, outputs);
+    }
     let address = match explaining.subject {
         Subject::Word { address } => address,
         Subject::Race { number } => match address_of_race(alloc, &store, number) {
