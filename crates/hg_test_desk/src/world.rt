@@ -161,10 +161,11 @@ fn roomy_disk(alloc: Global) -> Result<MemDisk, AllocError> {
     MemDisk::with_room(alloc, ROOM_OF_CALLS, ROOM_OF_BYTES)
 }
 
-/// Four of them.
+/// Five of them.
 fn roomy_devices(alloc: Global) -> Result<Devices<MemDisk>, AllocError> {
     Ok(Devices {
-        journal: roomy_disk(alloc)?,
+        journal0: roomy_disk(alloc)?,
+        journal1: roomy_disk(alloc)?,
         slots: roomy_disk(alloc)?,
         root0: roomy_disk(alloc)?,
         root1: roomy_disk(alloc)?,

@@ -1,6 +1,6 @@
-//! The four disks of what is open, and what is below their fuses.
+//! The five disks of what is open, and what is below their fuses.
 //!
-//! Four disks have many parts, and each exit of a function that owns them lets all of them go. So what owns them has a `drop` of
+//! Five disks have many parts, and each exit of a function that owns them lets all of them go. So what owns them has a `drop` of
 //! its own: what lets them go is one call.
 
 use crate::device::{DEVICES, Device, PerDevice};
@@ -8,7 +8,7 @@ use crate::shelf::{Fuse, Image, TestDisk, calls_of, copy_image, disk_with};
 use hg_disk::{Answer, Call, MemDisk, Tear};
 use std::alloc::{AllocError, Global};
 
-/// Four disks.
+/// Five disks.
 pub struct Disks {
     parts: PerDevice<TestDisk>,
 }
@@ -49,7 +49,8 @@ impl Disks {
         let bytes = &image.parts;
         let mut is_whole = true;
         let parts = PerDevice {
-            journal: disk_or_none(alloc, &bytes.journal, fuses.journal, &mut is_whole),
+            journal0: disk_or_none(alloc, &bytes.journal0, fuses.journal0, &mut is_whole),
+            journal1: disk_or_none(alloc, &bytes.journal1, fuses.journal1, &mut is_whole),
             slots: disk_or_none(alloc, &bytes.slots, fuses.slots, &mut is_whole),
             root0: disk_or_none(alloc, &bytes.root0, fuses.root0, &mut is_whole),
             root1: disk_or_none(alloc, &bytes.root1, fuses.root1, &mut is_whole),
@@ -58,7 +59,7 @@ impl Disks {
         if is_whole { Ok(disks) } else { Err(AllocError) }
     }
 
-    /// These four.
+    /// These five.
     pub fn of(parts: PerDevice<TestDisk>) -> Disks {
         Disks { parts }
     }
@@ -71,14 +72,16 @@ impl Disks {
     /// What is below their fuses.
     pub fn into_memories(self) -> Memories {
         let PerDevice {
-            journal,
+            journal0,
+            journal1,
             slots,
             root0,
             root1,
         } = self.into_parts();
         Memories {
             parts: PerDevice {
-                journal: journal.into_inner(),
+                journal0: journal0.into_inner(),
+                journal1: journal1.into_inner(),
                 slots: slots.into_inner(),
                 root0: root0.into_inner(),
                 root1: root1.into_inner(),

@@ -25,20 +25,22 @@ const NEVER: Fuse = Fuse::Once(u64::MAX);
 
 /// No disk fails.
 pub const NO_FUSES: PerDevice<Fuse> = PerDevice {
-    journal: NEVER,
+    journal0: NEVER,
+    journal1: NEVER,
     slots: NEVER,
     root0: NEVER,
     root1: NEVER,
 };
 
 const NO_CALLS: PerDevice<u64> = PerDevice {
-    journal: 0,
+    journal0: 0,
+    journal1: 0,
     slots: 0,
     root0: 0,
     root1: 0,
 };
 
-/// The bytes of the four devices.
+/// The bytes of the five devices.
 pub struct Image {
     pub parts: PerDevice<Vec<u8>>,
 }
@@ -50,11 +52,12 @@ impl Drop for Image {
 }
 
 impl Image {
-    /// Four devices without a byte.
+    /// Five devices without a byte.
     pub fn new(alloc: Global) -> Image {
         Image {
             parts: PerDevice {
-                journal: Vec::new(alloc),
+                journal0: Vec::new(alloc),
+                journal1: Vec::new(alloc),
                 slots: Vec::new(alloc),
                 root0: Vec::new(alloc),
                 root1: Vec::new(alloc),
@@ -63,7 +66,8 @@ impl Image {
     }
 
     pub fn clear(&mut self) {
-        self.parts.journal.clear();
+        self.parts.journal0.clear();
+        self.parts.journal1.clear();
         self.parts.slots.clear();
         self.parts.root0.clear();
         self.parts.root1.clear();
@@ -177,7 +181,7 @@ fn put_part(bytes: &[u8], tokens: &mut Tokens, out: &mut Text) -> Result<(), Hal
 }
 
 impl Shelf {
-    /// Four disks without a byte.
+    /// Five disks without a byte.
     pub fn new(alloc: Global) -> Shelf {
         Shelf {
             image: Image::new(alloc),
@@ -207,19 +211,21 @@ impl Shelf {
         put_back(disk, self.tear, bytes, self.calls.of_mut(device))
     }
 
-    /// Takes all four back.
+    /// Takes all five back.
     pub fn put_all(&mut self, disks: Disks) -> Result<(), AllocError> {
         let PerDevice {
-            journal,
+            journal0,
+            journal1,
             slots,
             root0,
             root1,
         } = disks.into_parts();
-        let journal = self.put(Device::Journal, journal);
+        let journal0 = self.put(Device::Journal0, journal0);
+        let journal1 = self.put(Device::Journal1, journal1);
         let slots = self.put(Device::Slots, slots);
         let root0 = self.put(Device::Root0, root0);
         let root1 = self.put(Device::Root1, root1);
-        journal.and(slots).and(root0).and(root1)
+        journal0.and(journal1).and(slots).and(root0).and(root1)
     }
 
     /// `DEVICE call K once`, or `.. on`

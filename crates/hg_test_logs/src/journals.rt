@@ -128,7 +128,7 @@ impl JournalBench {
     /// Puts the disk back, if a journal is open.
     pub fn close(&mut self, shelf: &mut Shelf) -> Result<(), AllocError> {
         match self.opened.take() {
-            Some(journal) => shelf.put(Device::Journal, journal.into_disk()),
+            Some(journal) => shelf.put(Device::Journal0, journal.into_disk()),
             None => Ok(()),
         }
     }
@@ -148,7 +148,7 @@ impl JournalBench {
                 Ok(())
             }
             Err((halt, disk)) => {
-                shelf.put(Device::Journal, disk)?;
+                shelf.put(Device::Journal0, disk)?;
                 Err(halt)
             }
         }

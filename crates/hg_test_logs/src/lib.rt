@@ -30,7 +30,7 @@ struct Files {
 }
 
 impl Files {
-    /// Four empty disks, and nothing open.
+    /// Five empty disks, and nothing open.
     fn new(alloc: Global) -> Files {
         Files {
             alloc,

@@ -158,7 +158,7 @@ impl LogBench {
     /// Puts the disk back, if a log is open.
     pub fn close(&mut self, shelf: &mut Shelf) -> Result<(), AllocError> {
         match self.opened.take() {
-            Some(log) => shelf.put(Device::Journal, log.into_disks()),
+            Some(log) => shelf.put(Device::Journal0, log.into_disks()),
             None => Ok(()),
         }
     }
@@ -178,7 +178,7 @@ impl LogBench {
                 Ok(())
             }
             Err((halt, disk)) => {
-                shelf.put(Device::Journal, disk)?;
+                shelf.put(Device::Journal0, disk)?;
                 Err(halt)
             }
         }

@@ -159,8 +159,8 @@ fn open(
 
 /// Puts both disks back.
 fn put_back(shelf: &mut Shelf, first: TestDisk, second: TestDisk) -> Result<(), AllocError> {
-    let first = shelf.put(Device::Root0, first);
-    let second = shelf.put(Device::Root1, second);
+    let first = shelf.put(Device::Journal0, first);
+    let second = shelf.put(Device::Journal1, second);
     first.and(second)
 }
 
@@ -198,8 +198,8 @@ impl PairBench {
     /// Makes or attaches a pair, or puts the disks of a refused one back.
     fn open(&mut self, alloc: Global, shelf: &mut Shelf, is_new: bool) -> Result<(), Halt> {
         self.close(shelf)?;
-        let first = shelf.take(alloc, Device::Root0)?;
-        let second = shelf.take(alloc, Device::Root1)?;
+        let first = shelf.take(alloc, Device::Journal0)?;
+        let second = shelf.take(alloc, Device::Journal1)?;
         match open(alloc, first, second, is_new) {
             Ok(pair) => {
                 self.put_opened(Some(pair));

@@ -22,6 +22,7 @@ pub enum Action {
     Prepare,
     WriteRoot,
     OpenRoot,
+    Retire,
     Evict,
     /// Brings the page with this number.
     Load(u64),
@@ -41,6 +42,8 @@ pub enum Told {
     Put(Put),
     /// The number of the root that was opened.
     Root(u64),
+    /// Whether the older journal was closed.
+    Retired(bool),
     WrongPhase(StorePhase),
     Refused(Refusal),
     /// No job was taken whose page could be handed in.
@@ -80,6 +83,8 @@ pub fn put_told(told: Told, out: &mut Text) {
         Told::Put(Put::Written) => out.put(b"written"),
         Told::Put(Put::Stale) => out.put(b"stale"),
         Told::Root(number) => out.put_number(b"root ", number),
+        Told::Retired(true) => out.put(b"retired"),
+        Told::Retired(false) => out.put(b"kept"),
         Told::WrongPhase(phase) => put_wrong_phase(phase, out),
         Told::Refused(refusal) => put_refusal(refusal, out),
         Told::NoPage => out.put(b"no page"),
@@ -99,6 +104,7 @@ fn action_of(token: &str) -> Result<Action, Halt> {
         "prepare" => Ok(Action::Prepare),
         "write-root" => Ok(Action::WriteRoot),
         "open-root" => Ok(Action::OpenRoot),
+        "retire" => Ok(Action::Retire),
         "evict" => Ok(Action::Evict),
         _ => Err(Halt::Misspelt),
     }

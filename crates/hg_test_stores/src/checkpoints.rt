@@ -40,27 +40,59 @@ fn put_all(machine: &mut impl Machine) -> Result<u64, Told> {
     Err(Told::NoPage)
 }
 
-/// Makes a whole checkpoint, and answers its number and how many pages were handed in; hands out the first answer that ends it before
-/// its root is open.
-pub fn checkpoint(machine: &mut impl Machine) -> Result<(u64, u64), Told> {
+/// What a whole checkpoint came to.
+#[derive(Clone, Copy)]
+pub struct Saved {
+    /// Its number.
+    pub root: u64,
+    /// How many pages were handed in.
+    pub pages: u64,
+    /// Whether the older journal was closed.
+    pub retired: bool,
+}
+
+/// Opens the root of a checkpoint, and answers its number.
+fn open_root(machine: &mut impl Machine) -> Result<u64, Told> {
+    match machine.make(Action::OpenRoot) {
+        Told::Root(root) => Ok(root),
+        other => Err(other),
+    }
+}
+
+/// Gives up the events that the newest root counts, and answers whether there were some in a journal of their own.
+fn retire(machine: &mut impl Machine) -> Result<bool, Told> {
+    match machine.make(Action::Retire) {
+        Told::Retired(retired) => Ok(retired),
+        other => Err(other),
+    }
+}
+
+/// Makes a whole checkpoint; hands out the first answer that ends it before.
+pub fn checkpoint(machine: &mut impl Machine) -> Result<Saved, Told> {
     make_done(machine, Action::Freeze)?;
     let pages = put_all(machine)?;
     for action in [Action::Seal, Action::Prepare, Action::WriteRoot] {
         make_done(machine, action)?;
     }
-    match machine.make(Action::OpenRoot) {
-        Told::Root(root) => Ok((root, pages)),
-        other => Err(other),
-    }
+    let root = open_root(machine)?;
+    let retired = retire(machine)?;
+    Ok(Saved {
+        root,
+        pages,
+        retired,
+    })
 }
 
-/// Makes a whole checkpoint: `root N, M pages`, or the answer that ends it.
+/// Makes a whole checkpoint: `root N, M pages`, with `, retired` behind it where a journal was closed, or the answer that ends it.
 pub fn put_checkpoint(machine: &mut impl Machine, out: &mut Text) -> Result<(), Halt> {
     match checkpoint(machine) {
-        Ok((root, pages)) => {
-            out.put_number(b"root ", root);
-            out.put_number(b", ", pages);
+        Ok(saved) => {
+            out.put_number(b"root ", saved.root);
+            out.put_number(b", ", saved.pages);
             out.put(b" pages");
+            if saved.retired {
+                out.put(b", retired");
+            }
         }
         Err(told) => put_told(told, out),
     }

@@ -37,13 +37,15 @@ type Opened = Result<OpenStore, (CreateFault, Devices<TestDisk>)>;
 
 fn devices_of(disks: Disks) -> Devices<TestDisk> {
     let PerDevice {
-        journal,
+        journal0,
+        journal1,
         slots,
         root0,
         root1,
     } = disks.into_parts();
     Devices {
-        journal,
+        journal0,
+        journal1,
         slots,
         root0,
         root1,
@@ -53,13 +55,15 @@ fn devices_of(disks: Disks) -> Devices<TestDisk> {
 /// The disks of a store.
 fn disks_of(devices: Devices<TestDisk>) -> Disks {
     let Devices {
-        journal,
+        journal0,
+        journal1,
         slots,
         root0,
         root1,
     } = devices;
     Disks::of(PerDevice {
-        journal,
+        journal0,
+        journal1,
         slots,
         root0,
         root1,

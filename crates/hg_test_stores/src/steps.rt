@@ -40,6 +40,8 @@ pub fn told_of(answer: &StepResult) -> Told {
         StepResult::Written(done) => done_told(done),
         StepResult::Opened(Ok(number)) => Told::Root(*number),
         StepResult::Opened(Err(fault)) => fault_told(*fault),
+        StepResult::Retired(Ok(retired)) => Told::Retired(*retired),
+        StepResult::Retired(Err(refusal)) => Told::Refused(*refusal),
         StepResult::Evicted(Ok(Some(page))) => Told::Page(*page),
         StepResult::Evicted(Ok(None)) => Told::NoPageLeft,
         StepResult::Evicted(Err(fault)) => fault_told(*fault),
@@ -59,6 +61,7 @@ fn plain_step(action: Action) -> Option<Step> {
         Action::Prepare => Some(Step::PrepareRoot),
         Action::WriteRoot => Some(Step::WriteRoot),
         Action::OpenRoot => Some(Step::OpenRoot),
+        Action::Retire => Some(Step::Retire),
         Action::Evict => Some(Step::Evict),
         Action::Load(page) => PageNumber::new(page).map(Step::Load),
     }

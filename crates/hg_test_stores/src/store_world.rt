@@ -114,7 +114,7 @@ fn stop_one(
 }
 
 impl<M: Machine> StoreWorld<M> {
-    /// Four empty disks, and nothing open. One machine is for what lines say, and the other for runs that are made again.
+    /// Five empty disks, and nothing open. One machine is for what lines say, and the other for runs that are made again.
     pub fn new(alloc: Global, machine: M, other: M) -> StoreWorld<M> {
         StoreWorld {
             alloc,

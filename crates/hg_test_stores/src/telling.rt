@@ -79,6 +79,7 @@ pub fn put_answer(
     match tokens.token() {
         "events" => put_total(b"events ", store.events(), out),
         "durable" => put_total(b"durable ", store.durable(), out),
+        "kept" => put_total(b"kept from ", store.first_kept(), out),
         "races" => put_total(b"races ", store.total(), out),
         "segments" => put_total(b"segments ", segments_in(store), out),
         "phase" => put_phase(store, out),
