@@ -2,8 +2,8 @@
 //!
 //!     plain-journal JOURNAL COPY
 //!
-//! JOURNAL is read first. Then, timed: the header and a closed gate are written and synced; for each batch its length, its body and
-//! the next closed gate are written and synced, and then its open gate. Printed are nanoseconds and batches.
+//! JOURNAL, one of the two of a store, is read first. Then, timed: its front (a gate, the header and the base) and a closed gate are written
+//! and synced; for each batch its length, its body and the next closed gate are written and synced, and then its open gate. Printed are nanoseconds and batches.
 //!
 //! Built by `make build/bench/plain-journal`.
 
@@ -14,11 +14,11 @@ use std::time::Instant;
 
 const OPEN: u8 = 0xA5;
 const CLOSED: u8 = 0x5A;
-const HEADER_LEN: usize = 8;
+const FRONT_LEN: usize = 17;
 
 /// The lengths of the bodies of a journal's batches.
 fn bodies(journal: &[u8]) -> Vec<usize> {
-    let (mut at, mut found) = (HEADER_LEN, Vec::new());
+    let (mut at, mut found) = (FRONT_LEN, Vec::new());
     while journal[at] == OPEN {
         let len = u32::from_be_bytes(journal[at + 1..at + 5].try_into().unwrap()) as usize;
         found.push(len);
@@ -36,11 +36,11 @@ fn main() -> Result<()> {
     let bodies = bodies(&journal);
     let file = File::create(copy)?;
     let begun = Instant::now();
-    let mut start = journal[..HEADER_LEN].to_vec();
+    let mut start = journal[..FRONT_LEN].to_vec();
     start.push(CLOSED);
     file.write_all_at(&start, 0)?;
     file.sync_all()?;
-    let (mut at, mut frame) = (HEADER_LEN, Vec::new());
+    let (mut at, mut frame) = (FRONT_LEN, Vec::new());
     for len in &bodies {
         frame.clear();
         frame.extend_from_slice(&journal[at + 1..at + 5 + len]);
