@@ -3,7 +3,7 @@
 use crate::past::Past;
 use crate::quoting::put_number;
 use hg_disk::Disk;
-use hg_journals::pair::JournalPair;
+use hg_journals::JournalPair;
 use hg_model::verdict::Refusal;
 use hg_pages::MOST_SLOTS;
 use hg_sets::MOST_SETS;

@@ -122,14 +122,14 @@ impl Holds {
 
     /// The number of the last event before those that were followed.
     pub fn gone(&self) -> u64
-        ensures { result ≡ self.gone }
+        ensures { result ≡ self.now.gone }
     {
         self.gone
     }
 
     /// The number of the last event.
     pub fn last(&self) -> u64
-        ensures { result ≡ self.gone + length self.events }
+        ensures { result ≡ self.now.gone + length self.now.events }
     {
         self.last
     }
