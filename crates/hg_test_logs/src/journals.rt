@@ -142,7 +142,7 @@ impl JournalBench {
         out: &mut Text,
     ) -> Result<(), Halt> {
         self.close(shelf)?;
-        match open(alloc, shelf.take(alloc, Device::Journal)?, token, out) {
+        match open(alloc, shelf.take(alloc, Device::Journal0)?, token, out) {
             Ok(journal) => {
                 self.put_opened(Some(journal));
                 Ok(())

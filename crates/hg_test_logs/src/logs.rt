@@ -172,7 +172,7 @@ impl LogBench {
         out: &mut Text,
     ) -> Result<(), Halt> {
         self.close(shelf)?;
-        match open(alloc, shelf.take(alloc, Device::Journal)?, token, out) {
+        match open(alloc, shelf.take(alloc, Device::Journal0)?, token, out) {
             Ok(log) => {
                 self.put_opened(Some(log));
                 Ok(())
