@@ -4,6 +4,7 @@ pub mod Faults
 pub mod Lines
 pub mod Look
 pub mod Looking
+pub mod Migrating
 pub mod Opening
 pub mod Spelling
 pub mod Taking

@@ -3,8 +3,10 @@ ghost use Rattle.std.specs.Prelude.{◌≡◌, ◌++◌, ◌∷◌, IfErr, IfOk,
 ghost use Rattle.hg_tasks.specs.Opening.{options_for, slash};
 
 use crate::look::LookDisk;
+use crate::migrating::FormerStore;
 use crate::scratch::{Scratch, beside_streams};
 use hg_disk::{FileDisk, SystemFile};
+use hg_migration::OldDevices;
 use hg_store::devices::Devices;
 use std::fs::{File, OpenOptions, TryLockError};
 use std::io::ErrorKind;
@@ -221,6 +223,52 @@ fn open_files(
         root0: open_unlocked(rt, directory, "root0", mode)?,
         root1: open_unlocked(rt, directory, "root1", mode)?,
     })
+}
+
+/// Opens the files of a store of the former form, and the two new journals.
+fn open_former_files(
+    rt: &HostRuntime,
+    directory: &str,
+) -> Result<FormerStore<FileDisk>, OpenFault> {
+    let look = OpenMode::Look;
+    let former = open_file(rt, directory, "journal", look)?;
+    let mode = match &former {
+        Some(_) => OpenMode::Make,
+        None => OpenMode::Change,
+    };
+    let journal0 = open_locked(rt, directory, "journal0", mode)?;
+    let journal1 = open_unlocked(rt, directory, "journal1", mode)?;
+    if let Some(file) = &former {
+        lock("journal", file, mode)?;
+    }
+    let old = OldDevices {
+        journal: device("journal", former, look)?,
+        slots: open_unlocked(rt, directory, "pages", look)?,
+        root0: open_unlocked(rt, directory, "root0", look)?,
+        root1: open_unlocked(rt, directory, "root1", look)?,
+    };
+    Ok(FormerStore {
+        old,
+        journal0,
+        journal1,
+    })
+}
+
+/// Opens the files of a store of the former form, `journal`, `pages`, `root0` and `root1`, for reading, and `journal0` and `journal1`, which
+/// are made where there is a `journal` and they are missing; their names are then durable. A file that is missing else is read as an empty one.
+/// `journal0` and `journal` are locked, so that no program uses the store meanwhile, be it an older one. `DeviceFault` says that a file can't be
+/// opened, or that another program uses the store.
+///
+/// No file gets a descriptor of a standard stream that is closed.
+pub fn open_former(rt: &HostRuntime, directory: &str) -> Result<FormerStore<FileDisk>, OpenFault> {
+    let first = File::open(rt, "/dev/null");
+    let second = File::open(rt, "/dev/null");
+    let third = File::open(rt, "/dev/null");
+    let former = open_former_files(rt, directory);
+    drop((first, second, third));
+    let former = former?;
+    sync_directory(rt, directory)?;
+    Ok(former)
 }
 
 /// Opens the files of a store's directory: `journal0`, `journal1`, `pages`, `root0` and `root1`. Only `OpenMode::Make` makes files; for

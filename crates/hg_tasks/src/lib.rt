@@ -5,6 +5,7 @@ pub mod directory;
 pub mod events;
 pub mod faults;
 pub mod look;
+pub mod migrating;
 mod scratch;
 pub mod status;
 pub mod stores;

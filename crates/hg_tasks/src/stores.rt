@@ -5,10 +5,11 @@ ghost use Rattle.hg_store.specs.Limits.{IsFrameCount};
 ghost use Rattle.hg_tasks.specs.Exits.{ListsAndExits};
 ghost use Rattle.hg_tasks.specs.Explaining.{ExplainsEvents, ExplainsStore, SaysGone, SaysNoRace, gone_text};
 
-use crate::directory::{OpenMode, look_at_directory, make_directory, open_directory};
+use crate::directory::{OpenMode, look_at_directory, make_directory, open_directory, open_former};
 use crate::events::EventText;
 use crate::faults::{fail_to_open, tell_of_feeding, tell_of_listing};
 use crate::look::LookDisk;
+use crate::migrating::migrate_and_print;
 use crate::status::exit_status;
 use crate::streams::{noted_outputs, noted_streams, plain_outputs, plain_streams};
 use hg_check::explain::commands::explain;
@@ -48,6 +49,15 @@ pub fn create_in(rt: &HostRuntime, directory: &str) -> u8 {
     };
     let mut outputs = plain_outputs(rt);
     create_store(rt.alloc(), devices, &mut outputs).status
+}
+
+/// Gives the store in a directory two journals, where it has one.
+pub fn migrate_in(rt: &HostRuntime, directory: &str) -> u8 {
+    let former = match open_former(rt, directory) {
+        Ok(former) => former,
+        Err(fault) => return fail_to_open(rt, &fault, false),
+    };
+    migrate_and_print(rt.alloc(), former, &mut plain_outputs(rt))
 }
 
 /// Feeds the trace on standard input to the store on these devices, those of a directory, and tells what the last line means.

@@ -18,7 +18,7 @@ use hg_streams::listing::Listing;
 use hg_streams::telling::FAULT;
 use hg_tasks::directory::Cause;
 use hg_tasks::faults::fail;
-use hg_tasks::stores::{create_in, explain_in, feed_in, print_of_store};
+use hg_tasks::stores::{create_in, explain_in, feed_in, migrate_in, print_of_store};
 use hg_tasks::texts::{Printing, explain_input, print_of_input};
 use std::env;
 use std::io::ErrorKind;
@@ -110,6 +110,7 @@ fn feed_settings(source: Source, frames: Frames, jobs: Jobs, checkpoint: bool) -
 fn perform_on_store<'a>(rt: &HostRuntime, directory: &'a str, task: StoreTask) -> Outcome<'a> {
     let status = match task {
         StoreTask::Create => create_in(rt, directory),
+        StoreTask::Migrate => migrate_in(rt, directory),
         StoreTask::Feed {
             source,
             frames,

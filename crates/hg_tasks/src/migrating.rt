@@ -1,0 +1,76 @@
+//! A store of the former form, with one journal, is given two.
+ghost use Rattle.std.specs.Prelude.{◌≡◌, IfErr, IfOk, IsErrOf, IsTrue};
+ghost use Rattle.hg_migration.specs.Emptying.{EitherIsOpen};
+ghost use Rattle.hg_tasks.specs.Migrating.{MigratesAndTells, WasMigrated, refusal_of_migration};
+
+use hg_disk::Disk;
+use hg_migration::{Migrated, MigrationFault, OldDevices, empty_files, migrate};
+use hg_model::verdict::Refusal;
+use hg_streams::output::Outputs;
+use hg_streams::printing::print_now;
+use hg_streams::telling::end_by_fault;
+use std::alloc::Global;
+use std::io::Write;
+
+/// The status where the store has two journals already.
+const NOT_EMPTY: u8 = 2;
+
+/// The devices of a store of the former form, and the two new journal files.
+#[derive(Drop)]
+pub struct FormerStore<D> {
+    pub old: OldDevices<D>,
+    pub journal0: D,
+    pub journal1: D,
+}
+
+/// The refusal by which a fault of a migration is told.
+fn refusal_of(fault: MigrationFault) -> Refusal
+    ensures { result ≡ refusal_of_migration fault }
+{
+    match fault {
+        MigrationFault::NotEmpty | MigrationFault::Damaged => Refusal::Damaged,
+        MigrationFault::DeviceFault => Refusal::DeviceFault,
+        MigrationFault::OutOfMemory => Refusal::OutOfMemory,
+    }
+}
+
+/// Migrates a store, where neither new file is open. What an earlier try left in them is dropped first.
+fn migrated<D: Disk>(alloc: Global, former: FormerStore<D>) -> Result<Migrated<D>, MigrationFault>
+    ensures made { IfOk result (WasMigrated ⟦<D as Disk>⟧ former) }
+    ensures not_empty { IsTrue D.is_honest → IsErrOf result MigrationFault.NotEmpty → EitherIsOpen ⟦<D as Disk>⟧ former.journal0 former.journal1 }
+{
+    let FormerStore {
+        old,
+        journal0,
+        journal1,
+    } = former;
+    let mut journal0 = journal0;
+    let mut journal1 = journal1;
+    empty_files(&mut journal0, &mut journal1)?;
+    match migrate(alloc, old, journal0, journal1) {
+        Ok(made) => Ok(made),
+        Err(refused) => Err(refused.fault),
+    }
+}
+
+/// Migrates a store and prints `migrated`, with status 0, when the new journals are durable; or `not empty`, with status 2, where one of
+/// them is open, and nothing was changed. With status 3 a fault was told.
+pub fn migrate_and_print<D: Disk + Drop, W: Write, V: Write>(
+    alloc: Global,
+    former: FormerStore<D>,
+    outputs: &mut Outputs<W, V>,
+) -> u8
+    ensures { MigratesAndTells ⟦<D as Disk>⟧ former outputs.old outputs.new result }
+{
+    let (status, printed) = match migrated(alloc, former) {
+        Ok(_) => (0, print_now(b"migrated\n", &mut outputs.output)),
+        Err(MigrationFault::NotEmpty) => {
+            (NOT_EMPTY, print_now(b"not empty\n", &mut outputs.output))
+        }
+        Err(fault) => return end_by_fault(refusal_of(fault), &mut outputs.faults),
+    };
+    match printed {
+        Ok(()) => status,
+        Err(refusal) => end_by_fault(refusal, &mut outputs.faults),
+    }
+}
