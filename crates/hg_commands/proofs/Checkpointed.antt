@@ -1,9 +1,10 @@
 -- A checkpoint of a store that is fed.
-use Rattle.std.proofs.Common.{◌≡◌, ◌∙◌, ◌+◌, ℕ, Bool, true, false, List, [], Option, Some, None, is_some, Result, Ok, Err, IfErr, IsTrue, codes, refl, sym, ap, subst, inl, inr, arith}
+use Rattle.std.proofs.Common.{◌≡◌, ◌∙◌, ◌+◌, ℕ, Bool, true, false, List, [], Option, Some, None, is_some, Result, Ok, Err, IfErr, IsTrue, codes, cond, refl, sym, ap, subst, inl, inr, arith}
 use Rattle.std.proofs.lemmas.Bool.{true≢false}
 use Rattle.std.specs.Prelude.{◌≢◌, IfOk, OnOk}
 use Rattle.std.proofs.lemmas.Result.{IfErr-weaker}
 use Rattle.hg_model.specs.declared.verdict.Refusal.{Refusal}
+use Rattle.hg_model.specs.declared.verdict.Refusal.TheVariants as refusal
 use Rattle.hg_disk.specs.declared.disk.Disk as disk
 use Rattle.hg_detect.specs.Shown as detect
 use Rattle.hg_pool.specs.Maps as pools
@@ -24,7 +25,8 @@ use Rattle.hg_checkpoint.specs.declared.cause.Cause.TheVariants as cause
 use Rattle.hg_checkpoint.specs.declared.phase.Phase.{Phase}
 use Rattle.hg_checkpoint.specs.declared.phase.Phase.TheVariants as phase
 use Rattle.hg_store.specs.Doing.{SameWords}
-use Rattle.hg_store.specs.Answers.{IfRefused, IsAllowed, IsOfFreezing, failed_by}
+use Rattle.hg_store.specs.Answers.{IfRefused, IsAllowed, IsOfFreezing, LeavesOrBreaks, failed_by}
+use Rattle.hg_store.specs.Steps.{ByRetire, IsRetired}
 use Rattle.hg_store.specs.Store.{HasItsNumber}
 use Rattle.hg_store.specs.declared.steps.StorePhase.TheVariants as store
 use Rattle.hg_streams.specs.Faults.{IsStreamFault}
@@ -33,15 +35,15 @@ use Rattle.hg_reading.specs.declared.ending.Ending.TheVariants as ending
 use Rattle.hg_reading.specs.declared.ending.Ending.TheVariants.{Ended, Bad}
 use Rattle.hg_streams.specs.declared.call.WriteCall.{WriteCall}
 use Rattle.hg_streams.specs.Written.{Took}
-use Rattle.hg_contents.specs.Choices.{Stands}
+use Rattle.hg_images.specs.Choices.{Stands}
 use Rattle.hg_store.specs.Images.{EachImage, HasOpened, failures_of}
 use Rattle.hg_store.specs.Shown.{KeepsLimits, ShownStore, live, saved, phase_by, phase_of, words}
 use Rattle.hg_store.specs.declared.devices.Devices.{Devices}
 use Rattle.hg_store.specs.declared.steps.StepFault.{StepFault}
 use Rattle.hg_store.specs.declared.steps.StepFault.TheVariants.{Refused, WrongPhase}
-use Rattle.hg_store.proofs.Moments.{all_still}
 use Rattle.hg_commands.specs.FeedRunning.{StaysFed, WasCheckpointed, WasMade, WasStepped, failed_of, is_due}
 use Rattle.hg_commands.specs.FeedFaults.{IsCheckpointFault, IsFeedFault, IsToldBy, LosesOne, Rests, WorksIn}
+use Rattle.hg_commands.specs.GivingUp.{GivesUp}
 use Rattle.hg_streams.specs.Texts.{number_text}
 
 pub failed_is : {T : Type 0} (result : Result T StepFault) (f : StepFault) → result ≡ Err f → failed_by result ≡ failed_of f
@@ -80,6 +82,19 @@ works_in {D} {T} s m to (Ok answer) done same is works in_phase =
     subst (λ (x : ShownStore D). WorksIn to x) (sym same) (subst (λ (d : Result T StepFault). OnOk d (s.is_broken ≡ false)) is works, subst (λ (d : Result T StepFault). OnOk d (s.progress.phase ≡ to)) is in_phase)
 works_in {D} {T} s m to (Err r) done same is works in_phase = tt
 
+-- a retirement that failed, by a store that worked
+pub retire_fails : {D : Type 0} (s m : ShownStore D) (result : Result Bool Refusal) → s.is_broken ≡ false → ByRetire s m result → IfErr result IsStreamFault
+retire_fails s m (Ok retired) works is = tt
+retire_fails s m (Err r) works is = inr (is.answer ∙ ap (λ (b : Bool). cond b refusal.Broken refusal.DeviceFault) works)
+
+pub retires : {D : Type 0} (s m : ShownStore D) (result : Result Bool Refusal) → ByRetire s m result → IfOk result (IsRetired s m)
+retires s m (Ok retired) is = is
+retires s m (Err r) is = tt
+
+pub retired_works : {D : Type 0} (s m : ShownStore D) (result : Result Bool Refusal) → ByRetire s m result → OnOk result (m.is_broken ≡ false)
+retired_works s m (Ok retired) is = is.works
+retired_works s m (Err r) is = tt
+
 -- a page that is not stale was written
 pub wrote_one : {D : Type 0} (old new m : ShownStore D) (page : Encoded) (result : Result Put Refusal) (done : Result Put StepFault) → m ≡ new → IfOk result (λ answer. done ≡ Ok answer) → ¬ IsStale (words old) page
     → IfOk done (λ p. p ≡ put.Stale → IsStale (words old) page) → LosesWritten page.page (words old).waiting (words new).waiting done → OnOk result (LosesOne old m)
@@ -111,20 +126,22 @@ asked_if_due asked (Bad line) due = absurd (true≢false (sym due))
 
 module _ {D : Type 0} (g : disk.Ghosts D) where
   -- a freeze that was refused
-  pub freeze_fails : (s : ShownStore D) (now : Devices D) (done : Result (Unit {0}) StepFault) (r : Refusal) → Rests s → (IsTrue g.is_honest → s.is_broken ≡ false → HasItsNumber g s) → now ≡ s.devices
-      → IsAllowed s (phase_of s ≡ store.Idle) (IsOfFreezing s) done → (IsTrue g.is_honest → IfRefused (λ c. c ≢ cause.Damaged) done) → IsToldBy done r → IsCheckpointFault g s now r
-  freeze_fails s now (Ok value) r rests number still allowed undamaged told = absurd told
-  freeze_fails s now (Err (WrongPhase p)) r rests number still allowed undamaged told = absurd (allowed.1 rests.1)
-  freeze_fails s now (Err (Refused c)) r rests number still (inl broken) undamaged told = absurd (true≢false (sym broken.0 ∙ rests.0))
-  freeze_fails s now (Err (Refused c)) r rests number still (inr may) undamaged told = by_cause c may.2 undamaged told
+  pub freeze_fails : (s m : ShownStore D) (done : Result (Unit {0}) StepFault) (r : Refusal) → Rests s → (IsTrue g.is_honest → s.is_broken ≡ false → HasItsNumber g s) → IfRefused (LeavesOrBreaks s m) done
+      → IsAllowed s (phase_of s ≡ store.Idle) (IsOfFreezing s) done → (IsTrue g.is_honest → IfRefused (λ c. c ≢ cause.Damaged) done) → IsToldBy done r → IsCheckpointFault g s m.devices r
+  freeze_fails s m (Ok value) r rests number still allowed undamaged told = absurd told
+  freeze_fails s m (Err (WrongPhase p)) r rests number still allowed undamaged told = absurd (allowed.1 rests.1)
+  freeze_fails s m (Err (Refused c)) r rests number still (inl broken) undamaged told = absurd (true≢false (sym broken.0 ∙ rests.0))
+  freeze_fails s m (Err (Refused c)) r rests number still (inr may) undamaged told = by_cause c may.2 still.1 undamaged told
     where
-      by_cause : (c : Cause) → IsOfFreezing s c → (IsTrue g.is_honest → c ≢ cause.Damaged) → r ≡ refusal_of c → IsCheckpointFault g s now r
-      by_cause cause.FullEvents last undamaged told = inr (record { rests = rests; still = still; number = λ honest. number honest rests.0; short = inl (told, last) })
-      by_cause cause.FullSlots lacks undamaged told = inr (record { rests = rests; still = still; number = λ honest. number honest rests.0; short = inr (told, lacks) })
-      by_cause cause.OutOfMemory few undamaged told = inl (inl (inl told))
-      by_cause cause.Damaged few undamaged told = inl (inr (told, λ honest. undamaged honest refl))
-      by_cause cause.Broken never undamaged told = absurd never
-      by_cause cause.DeviceFault never undamaged told = absurd never
+      by_cause : (c : Cause) → IsOfFreezing s c → (c ≢ cause.DeviceFault → m ≡ s) → (IsTrue g.is_honest → c ≢ cause.Damaged) → r ≡ refusal_of c → IsCheckpointFault g s m.devices r
+      by_cause cause.FullEvents last same undamaged told =
+          inr (record { rests = rests; still = ap (λ (x : ShownStore D). x.devices) (same (λ e. absurd (cc))); number = λ honest. number honest rests.0; short = inl (told, last) })
+      by_cause cause.FullSlots lacks same undamaged told =
+          inr (record { rests = rests; still = ap (λ (x : ShownStore D). x.devices) (same (λ e. absurd (cc))); number = λ honest. number honest rests.0; short = inr (told, lacks) })
+      by_cause cause.OutOfMemory few same undamaged told = inl (inl (inl told))
+      by_cause cause.Damaged few same undamaged told = inl (inr (told, λ honest. undamaged honest refl))
+      by_cause cause.DeviceFault few same undamaged told = inl (inl (inr told))
+      by_cause cause.Broken never same undamaged told = absurd never
 
   -- a checkpoint that was due and not made, or not told
   pub fault_if_due : (is_made : Bool) (s : ShownStore D) (now : Devices D) (r : Refusal) → is_made ≡ true → IsCheckpointFault g s now r → IsFeedFault g is_made now r
@@ -134,20 +151,6 @@ module _ {D : Type 0} (g : disk.Ghosts D) where
   pub fault_of_due : (asked is_made : Bool) (end : Ending) (now : Devices D) (r : Refusal) → is_made ≡ is_due asked end → IsFeedFault g is_made now r → IsFeedFault g asked now r
   fault_of_due asked is_made end now r is (inl fault) = inl fault
   fault_of_due asked is_made end now r is (inr due) = inr (asked_if_due asked end (sym is ∙ due.0), due.1)
-
-  -- a step that called no device
-  pub stepped_still : {T : Type 0} (began s m : ShownStore D) (result : Result T StepFault) → began ≡ s → (IsTrue g.is_honest → live g m ≡ live g s) → m.committed ≡ s.committed → m.pending ≡ s.pending → failed_by result ≡ 0 → m.devices ≡ s.devices
-      → KeepsLimits s m → WasStepped g began m result
-  stepped_still began s m result is same committed pending none still limits =
-      let stepped : WasStepped g s m result = record {
-        images = λ honest backs. subst (λ (x : Devices D). EachImage g s.devices x (Stands (saved g s) (live g s) s.in_doubt)) (sym still) (all_still g s.devices (Stands (saved g s) (live g s) s.in_doubt) backs.stands);
-        live = same;
-        committed = committed;
-        pending = pending;
-        failures = omega (arith, ap (failures_of g) still, none);
-        limits = limits;
-      } in
-      subst (λ (x : ShownStore D). WasStepped g x m result) (sym is) stepped
 
   -- a step that left the detector
   pub stepped_roots : {T : Type 0} (began s m : ShownStore D) (result : Result T StepFault) → began ≡ s → SameWords s m → m.committed ≡ s.committed → m.pending ≡ s.pending → failures_of g m.devices ≡ failed_by result + failures_of g s.devices
@@ -173,11 +176,12 @@ module _ {D : Type 0} (g : disk.Ghosts D) where
   }
 
   -- a checkpoint that was due was made, and told
-  pub checkpointed : (is_made : Bool) → is_made ≡ true → (s m : ShownStore D) (number : ℕ) (before after : List WriteCall) → StaysFed g {T = ℕ} s m (Ok number) → (IsTrue g.is_honest → HasOpened g m.devices number (live g s)) → m.is_broken ≡ false
+  pub checkpointed : (is_made : Bool) → is_made ≡ true → (s m : ShownStore D) (number : ℕ) (before after : List WriteCall) → StaysFed g {T = ℕ} s m (Ok number) → (IsTrue g.is_honest → HasOpened g m.devices number (live g s)) → (IsTrue g.is_honest → GivesUp s m) → m.is_broken ≡ false
       → Took before after (number_text (codes "checkpoint ") number) → WasCheckpointed g is_made s m before after
-  checkpointed is_made due s m number before after stays opened works printed = record {
+  checkpointed is_made due s m number before after stays opened given_up works printed = record {
     checkpoint = Some number;
     made = subst (λ (b : Bool). WasMade g b m.devices (live g s) (Some number)) (sym due) opened;
+    given_up = λ due honest. given_up honest;
     quiet = λ none. absurd (true≢false (sym due ∙ none));
     printed = printed;
     live = stays.live;

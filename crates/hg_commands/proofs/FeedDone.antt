@@ -10,20 +10,23 @@ use Rattle.hg_detect.specs.Shown as detect
 use Rattle.hg_disk.specs.declared.disk.Disk as disk
 use Rattle.hg_pool.specs.Maps as pools
 use Rattle.hg_pool.specs.Shown as pool
-use Rattle.hg_contents.specs.Choices.{Stands}
-use Rattle.hg_contents.specs.Images.{HasContent, Image}
-use Rattle.hg_contents.specs.Stores.{IsLeft}
+use Rattle.hg_images.specs.Choices.{Stands}
+use Rattle.hg_images.specs.Images.{HasContent, Image}
+use Rattle.hg_images.specs.Stores.{IsLeft}
 use Rattle.hg_store.specs.declared.devices.Devices.{Devices}
 use Rattle.hg_disk.specs.Calls.{CallsAtMost}
+use Rattle.hg_disk.specs.State.{IsImage}
 use Rattle.hg_store.specs.Doing.{SameRoots}
-use Rattle.hg_store.specs.Images.{HasOpened, RootCallsAtMost, failures_of, read_of, states_of}
+use Rattle.hg_store.specs.Images.{FilesReadSame, HasOpened, RootCallsAtMost, failures_of, read_of, states_of}
 use Rattle.hg_store.specs.Recovering.{HasTable}
 use Rattle.hg_store.specs.Shown.{ShownStore, live, saved}
-use Rattle.hg_store.specs.Store.{Backs, IsFresh}
+use Rattle.hg_store.specs.Store.{Backs, HasItsEvents, IsFresh}
 use Rattle.hg_reading.specs.declared.ending.Ending.{Ending}
 use Rattle.hg_commands.specs.declared.lines.Fed.{Fed}
 use Rattle.hg_commands.specs.Feeding.{ack_text, acks_text, checkpoint_text, feed_end_text, feed_text}
 use Rattle.hg_commands.specs.FeedRunning.{FeedDone, Feeds, IsPrinted, WasCheckpointed, WasCommitted, WasFed, WasMade, WentWell, is_due, place}
+use Rattle.hg_commands.specs.TakingLaws.{quiet_then}
+use Rattle.hg_commands.proofs.GivingUp.{gave_up, gives_up_behind, one_alone}
 use Rattle.hg_streams.specs.Texts.{number_text}
 use Rattle.hg_streams.specs.Calls.{failed_writes}
 use Rattle.hg_commands.specs.Storing.{EndsFlushed, failed_calls}
@@ -67,8 +70,9 @@ module _ {D : Type 0} (g : disk.Ghosts D) where
 
   pub was_fed : (reads later : List ReadCall) (source : ℕ) (asked is_made : Bool) (s t u w : ShownStore D) (f i : Fed) (o p q r v x : List WriteCall) (end : Ending) → is_made ≡ is_due asked end → f.accepted ≡ 0
       → Took o p (number_text (codes "resume ") ((live g s).last source)) → WentWell g (place s f p) (place t i q) → Feeds g reads later source s.detector.sets (live g s) (live g t) end
-      → WasCommitted g t u → Took q r (ack_text (live g t).events) → WasCheckpointed g is_made u w r v → Took v x (feed_end_text (live g w) end) → (IsTrue g.is_honest → Backs g w) → EndsFlushed x → WasFed g reads later source asked s w o x end
-  was_fed reads later source asked is_made s t u w f i o p q r v x end due none resumed goes feeds committed acked made ended backs flushed =
+      → WasCommitted g t u → Took q r (ack_text (live g t).events) → WasCheckpointed g is_made u w r v → Took v x (feed_end_text (live g w) end) → (IsTrue g.is_honest → Backs g w)
+      → (IsTrue g.is_honest → w.is_broken ≡ false → HasItsEvents g w) → EndsFlushed x → WasFed g reads later source asked s w o x end
+  was_fed reads later source asked is_made s t u w f i o p q r v x end due none resumed goes feeds committed acked made ended backs keeps flushed =
       let kept : live g u ≡ live g t = ap (λ (d : detect.ShownDetector (pool.ShownPool D)). detect.content (pools.live g) d) committed.detector in
       let same = λ (honest : IsTrue g.is_honest). made.live honest ∙ kept in
       let resume = number_text (codes "resume ") ((live g s).last source) in
@@ -85,17 +89,15 @@ module _ {D : Type 0} (g : disk.Ghosts D) where
             (subst (λ (c : Content). Took q r (ack_text c.events)) (sym (same honest)) acked) made.printed ended;
         flushed = flushed;
         made = subst (λ (b : Bool). WasMade g b w.devices (live g w) made.checkpoint) due (made_of_same is_made w.devices (live g u) (live g w) made.checkpoint made.live made.made);
-        quiet = λ none.
-            let still = made.quiet (due ∙ none) in
-            record {
-              root0 = still.root0 ∙ (committed.roots.root0 ∙ goes.roots.root0);
-              root1 = still.root1 ∙ (committed.roots.root1 ∙ goes.roots.root1);
-            };
+        given_up = λ is honest.
+            gives_up_behind g s u w (quiet_then s t u goes.quiet committed.quiet) (made.given_up (due ∙ is) honest);
+        quiet = λ none. quiet_then s t w goes.quiet (quiet_then t u w committed.quiet (made.quiet (due ∙ none)));
         failures = omega (arith, made.failures, committed.failures, goes.failures, took_intact o p resumed, took_intact q r acked, took_intact r v made.printed, took_intact v x ended);
         works = made.works;
         durable = λ honest.
             ap (λ (d : detect.ShownDetector (pool.ShownPool D)). detect.content (pools.live g) d) (made.committed ∙ committed.committed) ∙ sym (same honest);
         backs = backs;
+        keeps = λ honest. keeps honest made.works;
       }
 
   pub fresh_is_left : (s : ShownStore D) (c : Content) (new : Devices D) (image : Image) → IsFresh g s c → new ≡ s.devices → IsLeft (states_of g new) image → HasContent image c
@@ -109,10 +111,10 @@ module _ {D : Type 0} (g : disk.Ghosts D) where
       subst (λ (d : Devices D). RootCallsAtMost g 4 old d) (sym is)
       (subst (λ (d : D). CallsAtMost g 4 old.root0 d) (sym same.root0) calls.0, subst (λ (d : D). CallsAtMost g 4 old.root1 d) (sym same.root1) calls.1)
 
-  pub feed_done : (reads later : List ReadCall) (source : ℕ) (asked : Bool) (old new : Devices D) (s u : ShownStore D) (o v : List WriteCall) (end : Ending)
+  pub feed_done : ((d : D) → IsImage (g.state d) (g.state d).contents) → (reads later : List ReadCall) (source : ℕ) (asked : Bool) (old new : Devices D) (s u : ShownStore D) (o v : List WriteCall) (end : Ending)
       → (IsTrue g.is_honest → (c : Content) × HasContent (read_of g old) c × IsFresh g s c) → (IsTrue g.is_honest → HasTable 262144 (read_of g old) (live g s) s.detector.sets) → failures_of g s.devices ≡ failures_of g old → RootCallsAtMost g 4 old s.devices
-      → WasFed g reads later source asked s u o v end → new ≡ u.devices → FeedDone g reads later source asked old new o v end
-  feed_done reads later source asked old new s u o v end began sets failures calls was is = record {
+      → FilesReadSame g old s.devices → (IsTrue g.is_honest → s.is_broken ≡ false → HasItsEvents g s) → WasFed g reads later source asked s u o v end → new ≡ u.devices → FeedDone g reads later source asked old new o v end
+  feed_done has_its_bytes reads later source asked old new s u o v end began sets failures calls bytes keeps was is = record {
     table = s.detector.sets;
     first = live g s;
     last = live g u;
@@ -121,7 +123,10 @@ module _ {D : Type 0} (g : disk.Ghosts D) where
     printed = was.printed;
     flushed = was.flushed;
     made = subst (λ (d : Devices D). WasMade g (is_due asked end) d (live g u) was.checkpoint) (sym is) was.made;
-    quiet = λ none. calls_stay old new s u calls (was.quiet none) is;
+    given_up = λ due honest.
+        gave_up g has_its_bytes old new s u (live g u) bytes (keeps honest (began honest).2.idle.works) (was.keeps honest) ((was.backs honest).count ∙ ap (λ (c : Content). c.events) (was.durable honest)) (was.given_up due honest) is;
+    quiet = λ none. calls_stay old new s u calls (was.quiet none).roots is;
+    alone = λ none. one_alone g old new s u bytes (was.quiet none) is;
     failures = ap (λ (d : Devices D). failed_calls g d v) is ∙ (was.failures ∙ ap (λ (n : ℕ). n + failed_writes o) failures);
     began = λ honest.
         let b = began honest in

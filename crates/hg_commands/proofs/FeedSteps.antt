@@ -33,10 +33,12 @@ use Rattle.hg_commands.specs.Feeding.{Answers, FeedsTo, HasRoom, IsOffered, ack_
 use Rattle.hg_commands.specs.Storing.{failed_calls}
 use Rattle.hg_commands.specs.FeedFaults.{IsLineFault}
 use Rattle.hg_commands.specs.FeedRunning.{BreaksAt, EndsAt, EndsLine, IsEventFault, IsPrinted, IsReady, LeadsOn, Passes, Place, StaysOnWay, WasCounted, WasSent, WentWell, content_at, place, table_at}
+use Rattle.hg_commands.specs.TakingLaws.{quiet_still, quiet_then}
 use Rattle.hg_streams.specs.Told.{told, told_refusal}
 use Rattle.hg_streams.proofs.Printed.{appends_on, front_more}
 use Rattle.hg_streams.specs.Printed.{IsPrintedNow}
 use Rattle.hg_streams.proofs.Fronts.{printed_front_on}
+use Rattle.hg_commands.proofs.GivingUp.{quiet_offer}
 use Rattle.hg_commands.proofs.Ruling.{rules_find_no_damage, rules_find_none_broken}
 use Rattle.hg_commands.proofs.Fronts.{acks_front, feeds_grow, printed_grown}
 use Rattle.hg_detect.proofs.Asking.{asks_not_both, asks_same}
@@ -167,7 +169,7 @@ module _ {D : Type 0} (g : disk.Ghosts D) where
         goes = record {
           source = on.source;
           failures = omega (arith, counted.failures, was.failures);
-          roots = record { root0 = counted.roots.root0 ∙ was.done.same.root0; root1 = counted.roots.root1 ∙ was.done.same.root1 };
+          quiet = quiet_then s m t (quiet_offer s m was.done.same) counted.quiet;
           printed = λ honest. prints_on s m t f i j e o p was counted (is honest);
           ready = record {
             works = counted.works;
@@ -217,7 +219,7 @@ module _ {D : Type 0} (g : disk.Ghosts D) where
       record {
         source = is.source;
         failures = omega (arith, was.failures, none);
-        roots = record { root0 = was.done.same.root0; root1 = was.done.same.root1 };
+        quiet = quiet_offer s m was.done.same;
         printed = λ honest first front events h. record {
           count = omega (arith, ap (λ (c : Content). c.events) (same_content honest s m f i e r nothing was), h.count, is.accepted);
           printed = subst (λ (k : ℕ). Took first o (front ++ acks_text events k)) (sym is.accepted) h.printed;
@@ -386,7 +388,7 @@ module _ {D : Type 0} (g : disk.Ghosts D) where
   stays_there p ready = record {
     source = refl;
     failures = refl;
-    roots = record { root0 = refl; root1 = refl };
+    quiet = quiet_still p.store;
     printed = λ honest first front events h. h;
     ready = ready;
   }
@@ -395,7 +397,7 @@ module _ {D : Type 0} (g : disk.Ghosts D) where
   goes_on p q r first second = record {
     source = second.source ∙ first.source;
     failures = second.failures ∙ first.failures;
-    roots = record { root0 = second.roots.root0 ∙ first.roots.root0; root1 = second.roots.root1 ∙ first.roots.root1 };
+    quiet = quiet_then p.store q.store r.store first.quiet second.quiet;
     printed = λ honest start front events h. second.printed honest start front events (first.printed honest start front events h);
     ready = second.ready;
   }

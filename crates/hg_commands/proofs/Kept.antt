@@ -13,8 +13,8 @@ use Rattle.hg_detect.specs.declared.detector.Answer.{Answer}
 use Rattle.hg_detect.specs.Shown as detect
 use Rattle.hg_pool.specs.Maps as pools
 use Rattle.hg_pool.specs.Shown as pool
-use Rattle.hg_contents.specs.Choices.{Stands}
-use Rattle.hg_contents.specs.Images.{HasContent, Image}
+use Rattle.hg_images.specs.Choices.{Stands}
+use Rattle.hg_images.specs.Images.{HasContent, Image}
 use Rattle.hg_contents.proofs.Following.{followed_append, followed_events}
 use Rattle.hg_store.specs.declared.devices.Devices.{Devices}
 use Rattle.hg_store.specs.declared.steps.StepFault.{StepFault}
@@ -22,7 +22,7 @@ use Rattle.hg_store.specs.Images.{EachImage, Recovers, read_of}
 use Rattle.hg_store.specs.Limits.{Limits, limits_of}
 use Rattle.hg_store.specs.Recovering.{HasTable}
 use Rattle.hg_store.specs.Shown.{KeepsLimits, ShownStore, live, saved}
-use Rattle.hg_store.specs.Steps.{CommitDone, ContentOffered, OfferDone, if_accepted}
+use Rattle.hg_store.specs.Steps.{CommitDone, ContentOffered, OfferDone, RetireDone, if_accepted}
 use Rattle.hg_store.specs.Store.{Backs, IsFresh}
 use Rattle.hg_store.proofs.Moments.{all_still}
 use Rattle.hg_store.proofs.Refusals.{limits_stay}
@@ -63,7 +63,7 @@ stands_on first durable live in_doubt front pending image before leads (inr is) 
 
 module _ {D : Type 0} (g : disk.Ghosts D) where
   each_weaker : (old new : Devices D) (P Q : Image → Type 0) → ((image : Image) → P image → Q image) → EachImage g old new P → EachImage g old new Q
-  each_weaker old new P Q more all = record { journal = all.journal; slots = all.slots; root0 = all.root0; root1 = all.root1; each = λ image may. more image (all.each image may) }
+  each_weaker old new P Q more all = record { journal0 = all.journal0; journal1 = all.journal1; slots = all.slots; root0 = all.root0; root1 = all.root1; each = λ image may. more image (all.each image may) }
 
   -- more events were accepted
   along_more : (first last more : Content) (events : List Named) (start : Instant D) (mids : List (Instant D)) (now : Instant D) → followed last events ≡ Some more
@@ -169,6 +169,14 @@ module _ {D : Type 0} (g : disk.Ghosts D) where
   keeps_stepped s m calls moments later moment result stepped backs pushed is =
       keeps_step s m calls moments later moment s.in_doubt [] [] (λ honest. ap (λ (c : Content). Some c) (sym (stepped.live honest)))
       (λ honest b. ap (λ (d : detect.ShownDetector (pool.ShownPool D)). Some (detect.content (pools.live g) d)) (sym stepped.committed)) (λ honest b. stepped.images honest b) backs stepped.limits pushed is
+
+  -- events that the newest root counts were given up, or not
+  pub keeps_retired : (s m : ShownStore D) (calls : List WriteCall) (moments later : List (Instant D)) (moment : Instant D) (result : Result Bool Refusal) → RetireDone s m result
+      → (IsTrue g.is_honest → EachImage g s.devices m.devices (Stands (saved g s) (live g s) s.in_doubt)) → (IsTrue g.is_honest → Backs g m) → KeepsLimits s m → later ≡ moment ∷ moments → moment ≡ instant_of m calls
+      → KeepsOn g s calls moments m calls later
+  keeps_retired s m calls moments later moment result done images backs limits pushed is =
+      keeps_step s m calls moments later moment s.in_doubt [] [] (λ honest. ap (λ (d : detect.ShownDetector (pool.ShownPool D)). Some (detect.content (pools.live g) d)) (sym done.same.detector))
+      (λ honest b. ap (λ (d : detect.ShownDetector (pool.ShownPool D)). Some (detect.content (pools.live g) d)) (sym done.same.committed)) (λ honest b. images honest) backs limits pushed is
 
   -- a text was printed that acknowledges no more than what is durable
   pub keeps_printed : (s : ShownStore D) (calls new : List WriteCall) (moments : List (Instant D)) (text : List ℕ) → IsPrintedNow calls new text

@@ -1,5 +1,6 @@
 mod Checkpointed
 mod FeedDone
+mod GivingUp
 mod FeedSteps
 mod FeedWhole
 mod Fronts

@@ -6,9 +6,9 @@ use Rattle.hg_streams.specs.Calls.{failed_writes}
 use Rattle.hg_model.specs.Change.{empty_content}
 use Rattle.hg_model.specs.Contents.{Content}
 use Rattle.hg_disk.specs.declared.disk.Disk as disk
-use Rattle.hg_contents.specs.Choices.{Stands}
-use Rattle.hg_contents.specs.Images.{HasContent, Image}
-use Rattle.hg_contents.specs.Stores.{IsLeft}
+use Rattle.hg_images.specs.Choices.{Stands}
+use Rattle.hg_images.specs.Images.{HasContent, Image}
+use Rattle.hg_images.specs.Stores.{IsLeft}
 use Rattle.hg_store.specs.declared.devices.Devices.{Devices}
 use Rattle.hg_store.specs.Images.{EachImage, states_of}
 use Rattle.hg_store.specs.Shown.{ShownStore, live, saved}

@@ -5,8 +5,8 @@ use Rattle.hg_model.specs.declared.verdict.Refusal.TheVariants.{DeviceFault, Out
 use Rattle.hg_disk.specs.declared.disk.Disk as disk
 use Rattle.hg_disk.specs.State.{settled}
 use Rattle.hg_model.specs.Change.{empty_content}
-use Rattle.hg_contents.specs.Images.{HasContent, Image}
-use Rattle.hg_contents.specs.Stores.{IsLeft}
+use Rattle.hg_images.specs.Images.{HasContent, Image}
+use Rattle.hg_images.specs.Stores.{IsLeft}
 use Rattle.hg_store.specs.declared.devices.Devices.{Devices}
 use Rattle.hg_store.specs.Images.{EachImage, read_of, states_of}
 use Rattle.hg_store.specs.Recovering.{IsEmpty, empty_image}
@@ -32,7 +32,8 @@ module _ {D : Type 0} (g : disk.Ghosts D) where
 
   -- Each device has no byte, durably, unless a call of it failed since.
   pub record IsCleared (old new : Devices D) : Type 0 where
-    pub journal : IsEmptied old.journal new.journal
+    pub journal0 : IsEmptied old.journal0 new.journal0
+    pub journal1 : IsEmptied old.journal1 new.journal1
     pub slots : IsEmptied old.slots new.slots
     pub root0 : IsEmptied old.root0 new.root0
     pub root1 : IsEmptied old.root1 new.root1

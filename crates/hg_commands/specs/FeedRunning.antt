@@ -13,9 +13,9 @@ use Rattle.hg_streams.specs.declared.call.WriteCall.{WriteCall}
 use Rattle.hg_streams.specs.Calls.{NoneFailed, ends_met, given, MayBe}
 use Rattle.hg_streams.specs.Told.{told}
 use Rattle.hg_disk.specs.declared.disk.Disk as disk
-use Rattle.hg_contents.specs.Images.{HasContent, Image}
-use Rattle.hg_contents.specs.Stores.{IsLeft}
-use Rattle.hg_contents.specs.Choices.{Stands}
+use Rattle.hg_images.specs.Images.{HasContent, Image}
+use Rattle.hg_images.specs.Stores.{IsLeft}
+use Rattle.hg_images.specs.Choices.{Stands}
 use Rattle.hg_checkpoint.specs.Phases.{failed_in}
 use Rattle.hg_checkpoint.specs.declared.phase.Phase.TheVariants.{Idle}
 use Rattle.hg_store.specs.Answers.{failed_by}
@@ -23,12 +23,11 @@ use Rattle.hg_store.specs.declared.devices.Devices.{Devices}
 use Rattle.hg_store.specs.declared.steps.StepFault.{StepFault}
 use Rattle.hg_store.specs.declared.steps.StepFault.TheVariants as step
 use Rattle.hg_store.specs.declared.steps.StepFault.TheVariants.{WrongPhase}
-use Rattle.hg_store.specs.Doing.{SameRoots}
 use Rattle.hg_store.specs.Images.{EachImage, HasOpened, RootCallsAtMost, failures_of, read_of, states_of}
 use Rattle.hg_store.specs.Recovering.{HasTable}
 use Rattle.hg_store.specs.Shown.{KeepsLimits, ShownStore, live, saved}
 use Rattle.hg_store.specs.Steps.{ContentOffered, OfferDone}
-use Rattle.hg_store.specs.Store.{Backs}
+use Rattle.hg_store.specs.Store.{Backs, HasItsEvents}
 use Rattle.hg_wire.specs.declared.reader.Reading.{Reading}
 use Rattle.hg_wire.specs.Streams.{ended_readings, readings}
 use Rattle.hg_reading.specs.declared.ending.Ending.{Ending}
@@ -39,6 +38,7 @@ use Rattle.hg_commands.specs.declared.lines.Fed.{Fed}
 use Rattle.hg_commands.specs.Feeding.{FeedsTo, HasRoom, LiesOnWay, ack_text, acks_text, checkpoint_text, feed_text, sent}
 use Rattle.hg_commands.specs.Storing.{EndsFlushed, failed_calls}
 use Rattle.hg_commands.specs.FeedFaults.{HasFeedCause}
+use Rattle.hg_commands.specs.GivingUp.{GaveUp, GivesUp, IsQuiet, OneReadsSame}
 
 -- a store, what was fed to it, and the output
 pub record Place (D : Type 0) : Type 0 where
@@ -127,12 +127,12 @@ module _ {D : Type 0} (g : disk.Ghosts D) where
     pub count : (content_at g p).events ≡ events + p.fed.accepted
     pub printed : Took first p.output (front ++ acks_text events p.fed.accepted)
 
-  -- From one place to another no call of a device or of the output failed, and the roots were not called. What was printed is still what was due,
-  -- and the store is ready.
+  -- From one place to another no call of a device or of the output failed, and of the roots and the journals the current journal alone was called.
+  -- What was printed is still what was due, and the store is ready.
   pub record WentWell (old new : Place D) : Type 0 where
     pub source : new.fed.source ≡ old.fed.source
     pub failures : failed_calls g new.store.devices new.output ≡ failed_calls g old.store.devices old.output
-    pub roots : SameRoots old.store new.store
+    pub quiet : IsQuiet old.store new.store
     pub printed : IsTrue g.is_honest → (first : List WriteCall) (front : List ℕ) (events : ℕ) → IsPrinted first front events old → IsPrinted first front events new
     pub ready : IsReady new.store new.fed
 
@@ -197,14 +197,14 @@ module _ {D : Type 0} (g : disk.Ghosts D) where
   EndsByFeedFault source asked old new reads_old reads_new calls_old calls_new faults_old faults_new =
       (r : Refusal) × (HasFeedCause g asked old new reads_old reads_new calls_old calls_new r × (IsTold faults_old faults_new r × WroteFeedFront source old reads_old reads_new calls_old calls_new))
 
-  -- A commit was answered Ok. No root was called.
+  -- A commit was answered Ok. Of the roots and the journals the current journal alone was called.
   pub record WasCommitted (old new : ShownStore D) : Type 0 where
     pub works : new.is_broken ≡ false
     pub none : new.pending ≡ []
     pub detector : new.detector ≡ old.detector
     pub committed : new.committed ≡ old.detector
     pub failures : failures_of g new.devices ≡ failures_of g old.devices
-    pub roots : SameRoots old new
+    pub quiet : IsQuiet old new
 
   -- An event was sent to a store.
   pub record WasSent (old new : ShownStore D) (before now : Fed) (e : Event) (r : Result Answer Refusal) : Type 0 where
@@ -222,7 +222,7 @@ module _ {D : Type 0} (g : disk.Ghosts D) where
     pub pending : length new.store.pending ≡ (old.fed.accepted + 1) % 256
     pub detector : new.store.detector ≡ old.store.detector
     pub failures : failed_calls g new.store.devices new.output ≡ failed_calls g old.store.devices old.output
-    pub roots : SameRoots old.store new.store
+    pub quiet : IsQuiet old.store new.store
     pub printed : Took old.output new.output (if nat_eq ((old.fed.accepted + 1) % 256) 0 then ack_text (content_at g old).events else [])
 
   -- The store did one step of a checkpoint, or refused it: the events stay, in memory and in each image, and so do the limits; a call failed where
@@ -248,34 +248,39 @@ module _ {D : Type 0} (g : disk.Ghosts D) where
   WasMade true devices c None = ⊥
   WasMade false devices c checkpoint = checkpoint ≡ None
 
-  -- The checkpoint that was due was made, and told; or none was due, and no root was called.
+  -- The checkpoint that was due was made, and told, and the events that it counts were given up; or none was due, and no root was called.
   pub record WasCheckpointed (is_made : Bool) (old new : ShownStore D) (before after : List WriteCall) : Type 0 where
     pub checkpoint : Option ℕ
     pub made : WasMade is_made new.devices (live g old) checkpoint
-    pub quiet : is_made ≡ false → SameRoots old new
+    pub given_up : is_made ≡ true → IsTrue g.is_honest → GivesUp old new
+    pub quiet : is_made ≡ false → IsQuiet old new
     pub printed : Took before after (checkpoint_text checkpoint)
     pub live : IsTrue g.is_honest → live g new ≡ live g old
     pub committed : new.committed ≡ old.committed
     pub works : new.is_broken ≡ false
     pub failures : failures_of g new.devices ≡ failures_of g old.devices
 
-  -- A store was fed all of an input, or up to the line that ended it, and what was printed was flushed. Where no checkpoint was due, no root was called.
+  -- A store was fed all of an input, or up to the line that ended it, and what was printed was flushed. Where a checkpoint was due, the events that it
+  -- counts were given up. Where none was, of the roots and the journals the current journal alone was called.
   pub record WasFed (reads later : List ReadCall) (source : ℕ) (asked : Bool) (old new : ShownStore D) (before after : List WriteCall) (end : Ending) : Type 0 where
     pub checkpoint : Option ℕ
     pub feeds : Feeds reads later source old.detector.sets (live g old) (live g new) end
     pub printed : IsTrue g.is_honest → Took before after (feed_text source (live g old) (live g new) checkpoint end)
     pub flushed : EndsFlushed after
     pub made : WasMade (is_due asked end) new.devices (live g new) checkpoint
-    pub quiet : is_due asked end ≡ false → SameRoots old new
+    pub given_up : is_due asked end ≡ true → IsTrue g.is_honest → GivesUp old new
+    pub quiet : is_due asked end ≡ false → IsQuiet old new
     pub failures : failed_calls g new.devices after ≡ failed_calls g old.devices before
     pub works : new.is_broken ≡ false
     pub durable : IsTrue g.is_honest → saved g new ≡ live g new
     pub backs : IsTrue g.is_honest → Backs g new
+    pub keeps : IsTrue g.is_honest → HasItsEvents g new
 
   -- What feeding the store on these devices did. The events that were read led from a table and a content to the last content, and exactly
   -- the text for it was printed, and flushed. Of honest devices the first content is the one that they read, the table has its sets, and any crash from
-  -- now on leaves the last content. Where a checkpoint was asked for and the input came to its end, it is the newest one of each image. Where
-  -- none was due, the roots were called to open the store, and not after that.
+  -- now on leaves the last content. Where a checkpoint was asked for and the input came to its end, it is the newest one of each image, and the
+  -- events that it counts were given up. Where none was due, the roots were called to open the store, and not after that, and a read of one
+  -- journal gives what it gave.
   pub record FeedDone (reads later : List ReadCall) (source : ℕ) (asked : Bool) (old new : Devices D) (before after : List WriteCall) (end : Ending) : Type 0 where
     pub table : Table
     pub first : Content
@@ -285,7 +290,9 @@ module _ {D : Type 0} (g : disk.Ghosts D) where
     pub printed : IsTrue g.is_honest → Took before after (feed_text source first last checkpoint end)
     pub flushed : EndsFlushed after
     pub made : WasMade (is_due asked end) new last checkpoint
+    pub given_up : is_due asked end ≡ true → IsTrue g.is_honest → GaveUp g old new last
     pub quiet : is_due asked end ≡ false → RootCallsAtMost g 4 old new
+    pub alone : is_due asked end ≡ false → OneReadsSame g old new
     pub failures : failed_calls g new after ≡ failed_calls g old before
     pub began : IsTrue g.is_honest → HasContent (read_of g old) first × HasTable MOST_SETS (read_of g old) first table
     pub ended : IsTrue g.is_honest → (image : Image) → IsLeft (states_of g new) image → HasContent image last

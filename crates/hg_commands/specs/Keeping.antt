@@ -8,7 +8,7 @@ use Rattle.hg_model.specs.declared.event.Named.{Named}
 use Rattle.hg_model.specs.Contents.{Content}
 use Rattle.hg_model.specs.Change.{followed}
 use Rattle.hg_disk.specs.declared.disk.Disk as disk
-use Rattle.hg_contents.specs.Images.{HasContent, Image}
+use Rattle.hg_images.specs.Images.{HasContent, Image}
 use Rattle.hg_store.specs.Images.{EachImage, IsOn, Recovers, read_of}
 use Rattle.hg_store.specs.Limits.{Limits, limits_of}
 use Rattle.hg_store.specs.Recovering.{HasTable}

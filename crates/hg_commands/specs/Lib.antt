@@ -1,4 +1,5 @@
 pub mod Creating
+pub mod GivingUp
 pub mod FeedRunning
 pub mod Feeding
 pub mod FeedFaults

@@ -8,22 +8,44 @@ use Rattle.hg_wire.specs.declared.reader.Reading.{Reading}
 use Rattle.hg_reading.specs.declared.ending.Ending.{Ending}
 use Rattle.hg_reading.specs.declared.ending.Ending.TheVariants.{Ended}
 use Rattle.hg_commands.specs.Feeding.{FeedsTo}
+use Rattle.hg_store.specs.Shown.{ShownStore}
 use Rattle.hg_commands.specs.FeedRunning.{LeadsOn, Place, WentWell, content_at, table_at}
+use Rattle.hg_commands.specs.GivingUp.{IsQuiet}
 use Rattle.hg_commands.specs.Instants.{Instant}
 use Rattle.hg_commands.specs.Taking.{FeedsLines, IsFine, IsReadyAt, MayTake}
+
+-- where nothing but the current journal is called
+pub quiet_still : {D : Type 0} (s : ShownStore D) → IsQuiet s s
+quiet_still s = record {
+  roots = record { root0 = refl; root1 = refl };
+  turn = record { base = refl; current_base = refl; has_spare = refl; is_turned = refl };
+  other = refl;
+}
+
+pub quiet_then : {D : Type 0} (a b c : ShownStore D) → IsQuiet a b → IsQuiet b c → IsQuiet a c
+quiet_then a b c first second = record {
+  roots = record { root0 = second.roots.root0 ∙ first.roots.root0; root1 = second.roots.root1 ∙ first.roots.root1 };
+  turn = record {
+    base = second.turn.base ∙ first.turn.base;
+    current_base = second.turn.current_base ∙ first.turn.current_base;
+    has_spare = second.turn.has_spare ∙ first.turn.has_spare;
+    is_turned = second.turn.is_turned ∙ first.turn.is_turned;
+  };
+  other = second.other ∙ first.other;
+}
 
 passed : IsFine (Ok None)
 passed x h = absurd (cc)
 
 module _ {D : Type 0} (g : disk.Ghosts D) where
   stays : (p : Place D) → IsReadyAt p → WentWell g p p
-  stays p ready = record { source = refl; failures = refl; roots = record { root0 = refl; root1 = refl }; printed = λ honest first front events h. h; ready = ready }
+  stays p ready = record { source = refl; failures = refl; quiet = quiet_still p.store; printed = λ honest first front events h. h; ready = ready }
 
   goes_then : (p q r : Place D) → WentWell g p q → WentWell g q r → WentWell g p r
   goes_then p q r first second = record {
     source = second.source ∙ first.source;
     failures = second.failures ∙ first.failures;
-    roots = record { root0 = second.roots.root0 ∙ first.roots.root0; root1 = second.roots.root1 ∙ first.roots.root1 };
+    quiet = quiet_then p.store q.store r.store first.quiet second.quiet;
     printed = λ honest start front events h. second.printed honest start front events (first.printed honest start front events h);
     ready = second.ready;
   }

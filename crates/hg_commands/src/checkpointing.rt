@@ -1,4 +1,5 @@
-//! A checkpoint, from the freeze to its open root. Each step comes in its phase, so none is refused for that.
+//! A checkpoint, from the freeze to its open root and to the events that it counts, which are given up. Each step comes in its phase, so none
+//! is refused for that.
 
 ghost use Rattle.std.specs.Prelude.{◌≡◌, Ok, false, IfErr, IfOk, IsTrue, OnOk};
 ghost use Rattle.hg_streams.specs.Faults.{IsStreamFault};
@@ -6,7 +7,9 @@ ghost use Rattle.hg_streams.specs.Told.{told_refusal};
 ghost use Rattle.hg_pool.specs.Calls.{IsStale};
 ghost use Rattle.hg_checkpoint.specs.declared.phase.Phase.TheVariants as phase;
 ghost use Rattle.hg_store.specs.Shown.{words};
+ghost use Rattle.hg_store.specs.Steps.{IsRetired, SameButJournals};
 ghost use Rattle.hg_commands.specs.FeedRunning.{StaysFed, WasStepped, failed_of};
+ghost use Rattle.hg_commands.specs.GivingUp.{GivesUp, turned};
 ghost use Rattle.hg_commands.specs.Stepping.{KeepsStep, OpensFrozen, OpensLive, StaysKept};
 ghost use Rattle.hg_commands.specs.FeedFaults.{HasFlushed, IsCheckpointFault, IsToldBy, LosesOne, Rests, WorksIn, WritesOne, refusal_by};
 
@@ -56,11 +59,12 @@ impl<D: Disk, W> Feeding<D, W> {
         }
     }
 
-    /// Freezes the words.
+    /// Freezes the words, and has the journals take turns where a turn is due.
     fn freeze(&mut self, alloc: Global, output: &Output<W>) -> Result<(), Refusal>
         requires rests { Rests self.old.store }
         ensures stays { StaysFed ⟦<D as Disk>⟧ self.old.store self.new.store result }
         ensures frozen { OnOk result (self.new.store.frozen ≡ self.old.store.detector) }
+        ensures turned { OnOk result (self.new.store.turns ≡ turned self.old.store) }
         ensures begun { OnOk result (WorksIn phase.Flushing self.new.store) }
         ensures cause { IfErr result (IsCheckpointFault ⟦<D as Disk>⟧ self.old.store self.new.store.devices) }
         ensures kept { StaysKept ⟦<D as Disk>⟧ self.old output.now self.new output.now }
@@ -77,6 +81,7 @@ impl<D: Disk, W> Feeding<D, W> {
         requires waits { ¬ IsStale (words self.old.store) page.now }
         ensures stays { StaysFed ⟦<D as Disk>⟧ self.old.store self.new.store result }
         ensures frozen { self.new.store.frozen ≡ self.old.store.frozen }
+        ensures turns { self.new.store.turns ≡ self.old.store.turns }
         ensures flushing { OnOk result (WorksIn phase.Flushing self.new.store) }
         ensures written { OnOk result (LosesOne self.old.store self.new.store) }
         ensures cause { IfErr result IsStreamFault }
@@ -92,6 +97,7 @@ impl<D: Disk, W> Feeding<D, W> {
         requires flushing { WorksIn phase.Flushing self.old.store }
         ensures stays { StaysFed ⟦<D as Disk>⟧ self.old.store self.new.store result }
         ensures frozen { self.new.store.frozen ≡ self.old.store.frozen }
+        ensures turns { self.new.store.turns ≡ self.old.store.turns }
         ensures flushing { OnOk result (WorksIn phase.Flushing self.new.store) }
         ensures left { IfOk result (WritesOne self.old.store self.new.store) }
         ensures cause { IfErr result IsStreamFault }
@@ -114,6 +120,7 @@ impl<D: Disk, W> Feeding<D, W> {
         requires flushing { WorksIn phase.Flushing self.old.store }
         ensures stays { StaysFed ⟦<D as Disk>⟧ self.old.store self.new.store result }
         ensures frozen { self.new.store.frozen ≡ self.old.store.frozen }
+        ensures turns { self.new.store.turns ≡ self.old.store.turns }
         ensures flushed { OnOk result (HasFlushed self.new.store) }
         ensures cause { IfErr result IsStreamFault }
         ensures kept { StaysKept ⟦<D as Disk>⟧ self.old output.now self.new output.now }
@@ -127,6 +134,7 @@ impl<D: Disk, W> Feeding<D, W> {
         requires flushed { HasFlushed self.old.store }
         ensures stays { StaysFed ⟦<D as Disk>⟧ self.old.store self.new.store result }
         ensures frozen { self.new.store.frozen ≡ self.old.store.frozen }
+        ensures turns { self.new.store.turns ≡ self.old.store.turns }
         ensures sealed { OnOk result (WorksIn phase.Sealed self.new.store) }
         ensures cause { IfErr result IsStreamFault }
         ensures kept { StaysKept ⟦<D as Disk>⟧ self.old output.now self.new output.now }
@@ -141,6 +149,7 @@ impl<D: Disk, W> Feeding<D, W> {
         requires sealed { WorksIn phase.Sealed self.old.store }
         ensures stays { StaysFed ⟦<D as Disk>⟧ self.old.store self.new.store result }
         ensures frozen { self.new.store.frozen ≡ self.old.store.frozen }
+        ensures turns { self.new.store.turns ≡ self.old.store.turns }
         ensures prepared { OnOk result (WorksIn phase.Prepared self.new.store) }
         ensures cause { IfErr result IsStreamFault }
         ensures kept { StaysKept ⟦<D as Disk>⟧ self.old output.now self.new output.now }
@@ -155,6 +164,7 @@ impl<D: Disk, W> Feeding<D, W> {
         requires prepared { WorksIn phase.Prepared self.old.store }
         ensures stays { StaysFed ⟦<D as Disk>⟧ self.old.store self.new.store result }
         ensures frozen { self.new.store.frozen ≡ self.old.store.frozen }
+        ensures turns { self.new.store.turns ≡ self.old.store.turns }
         ensures written { OnOk result (WorksIn phase.Written self.new.store) }
         ensures cause { IfErr result IsStreamFault }
         ensures kept { StaysKept ⟦<D as Disk>⟧ self.old output.now self.new output.now }
@@ -169,6 +179,8 @@ impl<D: Disk, W> Feeding<D, W> {
         requires written { WorksIn phase.Written self.old.store }
         ensures stays { StaysFed ⟦<D as Disk>⟧ self.old.store self.new.store result }
         ensures opened { IsTrue D.is_honest → IfOk result (OpensFrozen ⟦<D as Disk>⟧ self.old self.new) }
+        ensures counted { OnOk result (self.new.store.counted ≡ self.old.store.frozen.parts.events) }
+        ensures turns { self.new.store.turns ≡ self.old.store.turns }
         ensures works { OnOk result (self.new.store.is_broken ≡ false) }
         ensures cause { IfErr result IsStreamFault }
         ensures kept { StaysKept ⟦<D as Disk>⟧ self.old output.now self.new output.now }
@@ -178,12 +190,29 @@ impl<D: Disk, W> Feeding<D, W> {
         self.note_step(began, done, output)
     }
 
-    /// Makes a checkpoint and answers its number. All events are durable before. At `Ok` it is the newest checkpoint of each image of the
-    /// devices. No event is lost or added meanwhile, and each image has the same content.
-    pub fn make_checkpoint(&mut self, alloc: Global, output: &Output<W>) -> Result<u64, Refusal>
+    /// Gives up the events that the newest root counts, but for those of the current journal. Answers whether there were any.
+    fn give_up(&mut self, output: &Output<W>) -> Result<bool, Refusal>
+        requires works { self.old.store.is_broken ≡ false }
+        ensures stays { StaysFed ⟦<D as Disk>⟧ self.old.store self.new.store result }
+        ensures retired { IfOk result (IsRetired self.old.store self.new.store) }
+        ensures same { SameButJournals self.old.store self.new.store }
+        ensures works { OnOk result (self.new.store.is_broken ≡ false) }
+        ensures cause { IfErr result IsStreamFault }
+        ensures kept { StaysKept ⟦<D as Disk>⟧ self.old output.now self.new output.now }
+    {
+        let retired = self.store.retire();
+        self.store.stands();
+        self.moments.push(Moment::of(&self.store, output));
+        retired
+    }
+
+    /// Makes a checkpoint, up to its open root, and answers its number. All events are durable before, and the new root counts them.
+    fn make_root(&mut self, alloc: Global, output: &Output<W>) -> Result<u64, Refusal>
         requires rests { Rests self.old.store }
         ensures stays { StaysFed ⟦<D as Disk>⟧ self.old.store self.new.store result }
         ensures made { IsTrue D.is_honest → IfOk result (OpensLive ⟦<D as Disk>⟧ self.old self.new) }
+        ensures counted { OnOk result (self.new.store.counted ≡ self.old.store.detector.parts.events) }
+        ensures turned { OnOk result (self.new.store.turns ≡ turned self.old.store) }
         ensures works { OnOk result (self.new.store.is_broken ≡ false) }
         ensures cause { IfErr result (IsCheckpointFault ⟦<D as Disk>⟧ self.old.store self.new.store.devices) }
         ensures kept { StaysKept ⟦<D as Disk>⟧ self.old output.now self.new output.now }
@@ -194,5 +223,24 @@ impl<D: Disk, W> Feeding<D, W> {
         self.prepare(output)?;
         self.write(alloc, output)?;
         self.open(output)
+    }
+
+    /// Makes a checkpoint and answers its number. All events are durable before. At `Ok` it is the newest checkpoint of each image of the
+    /// devices, and of the events that it counts those of the current journal alone are kept. No event is lost or added meanwhile, and each
+    /// image has the same content.
+    pub fn make_checkpoint(&mut self, alloc: Global, output: &Output<W>) -> Result<u64, Refusal>
+        requires rests { Rests self.old.store }
+        ensures stays { StaysFed ⟦<D as Disk>⟧ self.old.store self.new.store result }
+        ensures made { IsTrue D.is_honest → IfOk result (OpensLive ⟦<D as Disk>⟧ self.old self.new) }
+        ensures given_up { IsTrue D.is_honest → OnOk result (GivesUp self.old.store self.new.store) }
+        ensures works { OnOk result (self.new.store.is_broken ≡ false) }
+        ensures cause { IfErr result (IsCheckpointFault ⟦<D as Disk>⟧ self.old.store self.new.store.devices) }
+        ensures kept { StaysKept ⟦<D as Disk>⟧ self.old output.now self.new output.now }
+    {
+        self.store.stands();
+        let number = self.make_root(alloc, output)?;
+        self.store.stands();
+        self.give_up(output)?;
+        Ok(number)
     }
 }

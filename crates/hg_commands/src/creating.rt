@@ -36,7 +36,8 @@ fn cleared<D: Disk>(devices: Devices<D>) -> Devices<D>
     ensures { IsCleared ⟦<D as Disk>⟧ devices result }
 {
     let mut devices = devices;
-    let _ = empty(&mut devices.journal);
+    let _ = empty(&mut devices.journal0);
+    let _ = empty(&mut devices.journal1);
     let _ = empty(&mut devices.slots);
     let _ = empty(&mut devices.root0);
     let _ = empty(&mut devices.root1);

@@ -184,7 +184,7 @@ impl<D: Disk, W: Write> Feeding<D, W> {
         Ok(ended(stop))
     }
 
-    /// Makes the checkpoint that is due, and tells its number.
+    /// Makes the checkpoint that is due, gives up the events that it counts, and tells its number.
     fn checkpoint_if_due(
         &mut self,
         alloc: Global,
@@ -254,6 +254,7 @@ fn recover_and_feed<T: Threads + Sync, D: Disk, R: Read, W: Write>(
 {
     match Store::recover(alloc, devices, settings.frames, Caps::profile()) {
         Ok(store) => {
+            store.stands();
             let mut moments = Trail::new();
             moments.push(Moment::of(&store, &*output));
             let fed = Fed {
@@ -298,11 +299,12 @@ fn recover_and_feed<T: Threads + Sync, D: Disk, R: Read, W: Write>(
 ///
 /// Whatever the status, a crash at any moment of the call loses no event that an `ack` written by then counts. The moments in the
 /// outcome show it: the first is the opening of the store, and one comes after each step of the store. A checkpoint changes no content.
+/// Behind it one journal is spare, so of the events that it counts those of the other one alone are kept; none is, if one was spare at first.
 ///
 /// Up to `jobs` threads read the lines of large pieces; what is done and printed never depends on how many.
 ///
 /// At each moment the store has the frames that were asked for, and the greatest number of slots. Where no checkpoint is due, the roots are
-/// called to open the store, four times each at most, and not after that.
+/// called to open the store, four times each at most, and not after that, and a read of one journal gives what it gave.
 pub fn feed<T: Threads + Sync, D: Disk, R: Read, W: Write, V: Write>(
     rt: &T,
     alloc: Global,

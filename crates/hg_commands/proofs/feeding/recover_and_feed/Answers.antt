@@ -2,7 +2,7 @@ use Rattle.std.proofs.lemmas.Result.{IfErr-weaker, IfOk-weaker}
 use Rattle.std.proofs.lemmas.List.Elements.{All-nil}
 use Rattle.std.proofs.Common.{ℕ, List, All, IsTrue, inl, inr, refl, sym, subst}
 use Rattle.hg_reading.specs.declared.ending.Ending.{Ending}
-use Rattle.hg_contents.specs.Images.{HasContent}
+use Rattle.hg_images.specs.Images.{HasContent}
 use Rattle.hg_store.specs.declared.devices.Devices.{Devices}
 use Rattle.hg_store.specs.Images.{read_of}
 use Rattle.hg_store.specs.Recovering.{HasTable}
@@ -29,8 +29,8 @@ returns-in-Ok-clause-fed g c =
     IfOk-weaker c.feed_store-end.result
     (λ (end : Ending). WasFed g.D.Disk reads later c.args.settings.source c.args.settings.checkpoint c.in-Ok.store c.feed_store-end.new.self.store before after end)
     (λ (end : Ending). FeedDone g.D.Disk reads later c.args.settings.source c.args.settings.checkpoint c.args.devices c.into_devices.result before after end)
-    (λ end was. feed_done g.D.Disk reads later c.args.settings.source c.args.settings.checkpoint c.args.devices c.into_devices.result c.in-Ok.store c.feed_store-end.new.self.store
-    before after end c.in-Ok.ensures.content has_sets c.in-Ok.ensures.device c.in-Ok.ensures.calls was c.into_devices.ensures)
+    (λ end was. feed_done g.D.Disk g.met.D.Disk.has_its_bytes reads later c.args.settings.source c.args.settings.checkpoint c.args.devices c.into_devices.result c.in-Ok.store c.feed_store-end.new.self.store
+    before after end c.in-Ok.ensures.content has_sets c.in-Ok.ensures.device c.in-Ok.ensures.calls c.in-Ok.ensures.bytes c.stands.ensures.kept was c.into_devices.ensures)
     c.feed_store-end.ensures.fed
 
 pub returns-in-Ok-clause-kept : goal.returns-in-Ok-clause-kept

@@ -1,5 +1,5 @@
 use Rattle.std.proofs.Common.{Result, Ok, Err, IfOk, OnOk, ◌∙◌, inl, inr, sym, subst, refl, ap}
-use Rattle.hg_contents.specs.Images.{HasContent}
+use Rattle.hg_images.specs.Images.{HasContent}
 use Rattle.hg_store.specs.Images.{KeepsFiles, Recovers, failures_of, read_of}
 use Rattle.hg_store.specs.Shown.{live}
 use Rattle.hg_store.proofs.Refusals.{is_not_opened, opened_with}

@@ -12,7 +12,7 @@ pub returns-clause-made : goal.returns-clause-made
 returns-clause-made g c =
     on_ok_weaker c.print_number.result
     (λ printed. checkpointed g.D.Disk c.args.is_made c.if-not-is_made.false c.args.self.now.store c.make_checkpoint.new.self.store c.in_ok-number.number c.args.output.now.calls c.print_number.new.output.calls
-    c.in_ok-number.ensures.stays c.in_ok-number.ensures.made c.in_ok-number.ensures.works printed)
+    c.in_ok-number.ensures.stays c.in_ok-number.ensures.made c.in_ok-number.ensures.given_up c.in_ok-number.ensures.works printed)
     c.print_number.ensures.printed
 
 pub returns-clause-front : goal.returns-clause-front

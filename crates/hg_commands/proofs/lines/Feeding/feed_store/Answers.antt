@@ -35,7 +35,7 @@ returns-clause-fed g c =
     c.checkpoint_is_due-is_made.ensures c.requires.accepted
     (subst (λ (n : ℕ). Took o p (number_text (codes "resume ") n)) (last_is s.is_broken c.in_ok-last.last ((live g.D.Disk s).last c.args.self.now.fed.source) c.requires.idle.works c.in_ok-last.ensures) c.in_ok-print_number.ensures.printed)
     c.in_ok-end.ensures.goes c.in_ok-end.ensures.feeds
-    c.in_ok-acknowledge.ensures.committed c.in_ok-acknowledge.ensures.printed c.in_ok-checkpoint_if_due.ensures.made c.in_ok-print_end.ensures.printed c.stands.ensures.backs c.in_ok-print_end.ensures.flushed
+    c.in_ok-acknowledge.ensures.committed c.in_ok-acknowledge.ensures.printed c.in_ok-checkpoint_if_due.ensures.made c.in_ok-print_end.ensures.printed c.stands.ensures.backs c.stands.ensures.kept c.in_ok-print_end.ensures.flushed
 
 never_fails : (b : Bool) (r : Refusal) (x : ℕ) → b ≡ false → ◌≡◌ {A = Result ℕ Refusal} (Err r) (cond b (Err refusal.Broken) (Ok x)) → ⊥
 never_fails true r x works h = absurd (cc)

@@ -1,15 +1,12 @@
-use Rattle.std.proofs.Common.{◌∙◌, ap}
+use Rattle.std.proofs.Common.{ap, subst, sym, ◌∙◌}
 use Rattle.std.proofs.lemmas.Result.{IfErr-weaker}
 use Rattle.hg_checkpoint.specs.declared.phase.Phase.TheVariants.{Flushing}
 use Rattle.hg_store.specs.Shown.{ShownStore}
+use Rattle.hg_store.specs.declared.devices.Devices.{Devices}
 use Rattle.hg_commands.specs.FeedFaults.{IsCheckpointFault, IsToldBy}
-use Rattle.hg_commands.proofs.Checkpointed.{freeze_fails, stepped_still, works_in}
+use Rattle.hg_commands.proofs.Checkpointed.{freeze_fails, works_in}
+use Rattle.hg_commands.proofs.GivingUp.{turned_by}
 use Rattle.hg_commands.proofs.lines.Feeding.freeze.Goals as goal
-
-pub note_step-requires : goal.note_step-requires
-note_step-requires g c =
-    stepped_still g.D.Disk c.of-began.result.value c.args.self.now.store c.freeze-done.new.self c.freeze-done.result c.of-began.ensures (λ honest. c.freeze-done.ensures.live honest) c.freeze-done.ensures.done.committed c.freeze-done.ensures.done.pending
-    c.freeze-done.ensures.no_call c.freeze-done.ensures.devices c.freeze-done.ensures.limits
 
 pub returns-clause-begun : goal.returns-clause-begun
 returns-clause-begun g c =
@@ -18,8 +15,13 @@ returns-clause-begun g c =
 pub returns-clause-cause : goal.returns-clause-cause
 returns-clause-cause g c =
     let s = c.args.self.now.store in
+    let m = c.freeze-done.new.self in
     let now = c.note_step.new.self.store.devices in
     IfErr-weaker c.note_step.result (IsToldBy c.freeze-done.result) (IsCheckpointFault g.D.Disk s now)
-    (λ r told. freeze_fails g.D.Disk s now c.freeze-done.result r c.requires.rests c.stands.ensures.newest
-    (ap (λ (x : ShownStore g.row.D.Denot). x.devices) c.note_step.ensures.store ∙ c.freeze-done.ensures.devices) c.freeze-done.ensures.done.allowed c.freeze-done.ensures.undamaged told)
+    (λ r told. subst (λ (d : Devices g.row.D.Denot). IsCheckpointFault g.D.Disk s d r) (ap (λ (x : ShownStore g.row.D.Denot). x.devices) (sym c.note_step.ensures.store))
+    (freeze_fails g.D.Disk s m c.freeze-done.result r c.requires.rests c.stands.ensures.newest c.freeze-done.ensures.done.refused c.freeze-done.ensures.done.allowed c.freeze-done.ensures.undamaged told))
     c.note_step.ensures.told
+
+pub returns-clause-turned : goal.returns-clause-turned
+returns-clause-turned g c =
+    turned_by c.args.self.now.store c.freeze-done.new.self c.note_step.new.self.store c.note_step.result c.freeze-done.result c.note_step.ensures.store c.note_step.ensures.answer c.freeze-done.ensures.turned

@@ -11,6 +11,7 @@ invariant-loop g l =
     record {
       stays : StaysFed g.D.Disk {T = Unit {0}} l.fn.self.store l.self.store (Ok tt);
       frozen : l.self.store.frozen ≡ l.fn.self.store.frozen;
+      turns : l.self.store.turns ≡ l.fn.self.store.turns;
       flushing : WorksIn Flushing l.self.store;
       kept : KeepsOn g.D.Disk l.fn.self.store l.output.calls l.fn.self.moments l.self.store l.output.calls l.self.moments;
     }
