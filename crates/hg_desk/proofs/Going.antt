@@ -22,19 +22,19 @@ use Rattle.hg_checkpoint.specs.declared.cause.Cause.{Cause}
 use Rattle.hg_detect.specs.declared.detector.Answer.{Answer}
 use Rattle.hg_store.specs.Answers.{IfRefused, IfWrongPhase, LeavesOrBreaks, failed_by}
 use Rattle.hg_store.specs.Journal.{after_refusal, failed_after}
-use Rattle.hg_contents.specs.Choices.{Stands}
-use Rattle.hg_contents.specs.Images.{Image}
+use Rattle.hg_images.specs.Choices.{Stands}
+use Rattle.hg_images.specs.Images.{Image}
 use Rattle.hg_contents.proofs.Following.{followed_append}
 use Rattle.hg_store.specs.declared.devices.Devices.{Devices}
 use Rattle.hg_store.specs.declared.steps.Step.{Step}
 use Rattle.hg_store.specs.declared.steps.Step.TheVariants as step
 use Rattle.hg_store.specs.declared.steps.StepResult.{StepResult}
 use Rattle.hg_store.specs.declared.steps.StepResult.TheVariants as told
-use Rattle.hg_store.specs.Doing.{ContentDone, FreezeDone, StepDone, fails_by, in_doubt_during}
+use Rattle.hg_store.specs.Doing.{ContentDone, StepDone, fails_by, in_doubt_during}
 use Rattle.hg_store.specs.Images.{EachImage, EachImageAlong, IsOn, MayLeaveAll, failures_of}
 use Rattle.hg_store.specs.Shown.{ShownStore, live, saved}
 use Rattle.hg_store.specs.Paging.{MovesOnlyPages}
-use Rattle.hg_store.specs.Steps.{CommitDone, OfferDone, if_accepted}
+use Rattle.hg_store.specs.Steps.{CommitDone, OfferDone, RetireDone, if_accepted}
 use Rattle.hg_store.specs.declared.steps.StepFault.{StepFault}
 use Rattle.hg_store.specs.declared.steps.StepFault.TheVariants.{Refused, WrongPhase}
 use Rattle.hg_store.specs.Store.{Backs}
@@ -135,10 +135,11 @@ more_fail (told.Written r) n = omega arith
 more_fail (told.Opened r) n = omega arith
 more_fail (told.Evicted r) n = omega arith
 more_fail (told.Loaded r) n = omega arith
+more_fail (told.Retired r) n = more_after r n
 
 module _ {D : Type 0} (g : disk.Ghosts D) where
   each_weaker : (old new : Devices D) (P Q : Image → Type 0) → ((image : Image) → P image → Q image) → EachImage g old new P → EachImage g old new Q
-  each_weaker old new P Q more all = record { journal = all.journal; slots = all.slots; root0 = all.root0; root1 = all.root1; each = λ image may. more image (all.each image may) }
+  each_weaker old new P Q more all = record { journal0 = all.journal0; journal1 = all.journal1; slots = all.slots; root0 = all.root0; root1 = all.root1; each = λ image may. more image (all.each image may) }
 
   along_weaker : (start : Devices D) (moments : List (Devices D)) (now : Devices D) (P Q : Image → Type 0) → ((image : Image) → P image → Q image) → EachImageAlong g start moments now P → EachImageAlong g start moments now Q
   along_weaker start [] now P Q more all = each_weaker start now P Q more all
@@ -152,7 +153,8 @@ module _ {D : Type 0} (g : disk.Ghosts D) where
 
   may_of_points : (old new : Devices D) (image : Image) → MayLeaveAll points (points_of g old) (points_of g new) image → MayLeaveAll g old new image
   may_of_points old new image may = record {
-    journal = record { later = may.journal.later; has_gone = may.journal.has_gone; among = may.journal.among };
+    journal0 = record { later = may.journal0.later; has_gone = may.journal0.has_gone; among = may.journal0.among };
+    journal1 = record { later = may.journal1.later; has_gone = may.journal1.has_gone; among = may.journal1.among };
     slots = record { later = may.slots.later; has_gone = may.slots.has_gone; among = may.slots.among };
     root0 = record { later = may.root0.later; has_gone = may.root0.has_gone; among = may.root0.among };
     root1 = record { later = may.root1.later; has_gone = may.root1.has_gone; among = may.root1.among };
@@ -160,17 +162,18 @@ module _ {D : Type 0} (g : disk.Ghosts D) where
 
   may_to_points : (old new : Devices D) (image : Image) → MayLeaveAll g old new image → MayLeaveAll points (points_of g old) (points_of g new) image
   may_to_points old new image may = record {
-    journal = record { later = may.journal.later; has_gone = may.journal.has_gone; among = may.journal.among };
+    journal0 = record { later = may.journal0.later; has_gone = may.journal0.has_gone; among = may.journal0.among };
+    journal1 = record { later = may.journal1.later; has_gone = may.journal1.has_gone; among = may.journal1.among };
     slots = record { later = may.slots.later; has_gone = may.slots.has_gone; among = may.slots.among };
     root0 = record { later = may.root0.later; has_gone = may.root0.has_gone; among = may.root0.among };
     root1 = record { later = may.root1.later; has_gone = may.root1.has_gone; among = may.root1.among };
   }
 
   pub each_to_points : (old new : Devices D) (P : Image → Type 0) → EachImage g old new P → EachImage points (points_of g old) (points_of g new) P
-  each_to_points old new P all = record { journal = all.journal; slots = all.slots; root0 = all.root0; root1 = all.root1; each = λ image may. all.each image (may_of_points old new image may) }
+  each_to_points old new P all = record { journal0 = all.journal0; journal1 = all.journal1; slots = all.slots; root0 = all.root0; root1 = all.root1; each = λ image may. all.each image (may_of_points old new image may) }
 
   pub each_of_points : (old new : Devices D) (P : Image → Type 0) → EachImage points (points_of g old) (points_of g new) P → EachImage g old new P
-  each_of_points old new P all = record { journal = all.journal; slots = all.slots; root0 = all.root0; root1 = all.root1; each = λ image may. all.each image (may_to_points old new image may) }
+  each_of_points old new P all = record { journal0 = all.journal0; journal1 = all.journal1; slots = all.slots; root0 = all.root0; root1 = all.root1; each = λ image may. all.each image (may_to_points old new image may) }
 
   pub along_of_points : (start : Devices D) (moments : List (Devices D)) (now : Devices D) (P : Image → Type 0) → EachImageAlong points (points_of g start) (map (points_of g) moments) (points_of g now) P → EachImageAlong g start moments now P
   along_of_points start [] now P all = each_of_points start now P all
@@ -212,6 +215,7 @@ module _ {D : Type 0} (g : disk.Ghosts D) where
     live_leads step.OpenRoot result content = same_leads (live g old) (live g new) content.2.live
     live_leads step.Evict result content = same_leads (live g old) (live g new) content
     live_leads (step.Load page) result content = same_leads (live g old) (live g new) content.2.live
+    live_leads step.Retire result content = same_leads (live g old) (live g new) content
 
     commit_leads : (r : Result ℕ Refusal) → CommitDone g old new r → LeadsTo (saved g old) (live g old) → LeadsTo (saved g old) (saved g new)
     commit_leads (Ok count) done leads = subst (λ (c : Content). LeadsTo (saved g old) c) (sym (ap (λ (d : detect.ShownDetector (pool.ShownPool D)). detect.content (pools.live g) d) done.answer.committed)) leads
@@ -229,6 +233,7 @@ module _ {D : Type 0} (g : disk.Ghosts D) where
     saved_leads step.OpenRoot result done leads = same_leads (saved g old) (saved g new) (saved_same done.2.done.committed)
     saved_leads step.Evict result done leads = same_leads (saved g old) (saved g new) (saved_same done.2.moves.same.committed)
     saved_leads (step.Load page) result done leads = same_leads (saved g old) (saved g new) (saved_same done.2.moves.same.committed)
+    saved_leads step.Retire result done leads = same_leads (saved g old) (saved g new) (saved_same done.2.same.committed)
 
     works_and_broken : {X : Type 0} → new.is_broken ≡ false → new.is_broken ≡ true → X
     works_and_broken works is = absurd (false≢true (sym works ∙ is))
@@ -252,9 +257,9 @@ module _ {D : Type 0} (g : disk.Ghosts D) where
     commit_broken (Ok count) k done none is = works_and_broken done.answer.works is
     commit_broken (Err r) k done none is = refused_broken old.is_broken r k refl done.answer.answer none
 
-    freeze_broken : (r : Result (Unit {0}) StepFault) → FreezeDone old new r → new.is_broken ≡ true → old.is_broken ≡ true
-    freeze_broken (Ok done) all is = works_and_broken all.done.works is
-    freeze_broken (Err fault) all is = still_broken all.refused is
+    retire_broken : (r : Result Bool Refusal) (k : ℕ) → RetireDone old new r → failed_after r k ≡ k → new.is_broken ≡ true → old.is_broken ≡ true
+    retire_broken (Ok retired) k done none is = works_and_broken done.answer.works is
+    retire_broken (Err r) k done none is = refused_broken old.is_broken r k refl done.answer.answer none
 
     moved_broken : {T : Type 0} (r : Result T StepFault) (k : ℕ) → MovesOnlyPages old new r → failed_by r + k ≡ k → new.is_broken ≡ true → old.is_broken ≡ true
     moved_broken {T} r k moves none = was_broken (moves.breaks (λ is. none_is_one k (subst (λ (x : Result T StepFault). failed_by x + k ≡ k) is none)))
@@ -269,7 +274,8 @@ module _ {D : Type 0} (g : disk.Ghosts D) where
     step_broken : (step : Step) (result : StepResult) (k : ℕ) → StepDone g old new step result → fails_by result k ≡ k → new.is_broken ≡ true → old.is_broken ≡ true
     step_broken (step.Offer n) result k done none = offer_broken n done.0 k done.2 (subst (λ (r : StepResult). fails_by r k ≡ k) done.1 none)
     step_broken step.Commit result k done none = commit_broken done.0 k done.2 (subst (λ (r : StepResult). fails_by r k ≡ k) done.1 none)
-    step_broken step.Freeze result k done none = freeze_broken done.0 done.2
+    step_broken step.Freeze result k done none =
+        let all = done.2.done in checkpoint_broken done.0 k all.works all.unchanged all.refused (subst (λ (r : StepResult). fails_by r k ≡ k) done.1 none)
     step_broken step.TakeJob result k done none = still_broken done.2.same
     step_broken (step.Put page) result k done none =
         let all = done.2.done in checkpoint_broken done.0 k all.works all.unchanged all.refused (subst (λ (r : StepResult). fails_by r k ≡ k) done.1 none)
@@ -283,6 +289,7 @@ module _ {D : Type 0} (g : disk.Ghosts D) where
         let all = done.2.done in checkpoint_broken done.0 k all.works all.unchanged all.refused (subst (λ (r : StepResult). fails_by r k ≡ k) done.1 none)
     step_broken step.Evict result k done none = moved_broken done.0 k done.2.moves (subst (λ (r : StepResult). fails_by r k ≡ k) done.1 none)
     step_broken (step.Load page) result k done none = moved_broken done.0 k done.2.moves (subst (λ (r : StepResult). fails_by r k ≡ k) done.1 none)
+    step_broken step.Retire result k done none = retire_broken done.0 k done.2 (subst (λ (r : StepResult). fails_by r k ≡ k) done.1 none)
 
     -- what broke a store that worked at the opening is counted
     broken_on : (start : Began) (moments : List (Devices D)) (step : Step) (result : StepResult) → WentOn g start moments old → StepDone g old new step result

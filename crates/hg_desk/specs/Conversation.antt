@@ -82,7 +82,7 @@ Offers g named old new told told_after reply =
 
 -- What a share is told by a reply to an Ask of this source: an Ack is an acknowledgement.
 abbrev pub with_ack : ℕ → Reply → Told → Told
-with_ack source (Ack number) told = record { accepted = told.accepted; durable = told.durable; acks = ack source number ∷ told.acks }
+with_ack source (Ack number) told = record told { acks = ack source number ∷ told.acks }
 with_ack source (Welcome last) told = told
 with_ack source (Accepted number) told = told
 with_ack source (Duplicate last) told = told

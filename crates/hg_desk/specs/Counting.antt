@@ -2,8 +2,8 @@
 use Rattle.std.specs.Prelude.{◌≡◌, ◌≢◌, ◌⊎◌, ◌+◌, ◌≤◌, ℕ, All, List, length, map, sum}
 use Rattle.hg_disk.specs.declared.disk.Disk as disk
 use Rattle.hg_model.specs.Contents.{Content}
-use Rattle.hg_contents.specs.Images.{HasContent, Image}
-use Rattle.hg_contents.specs.Stores.{IsLeft}
+use Rattle.hg_images.specs.Images.{HasContent, Image}
+use Rattle.hg_images.specs.Stores.{IsLeft}
 use Rattle.hg_store.specs.Images.{states_of}
 use Rattle.hg_store.specs.Shown.{ShownStore, live, saved}
 use Rattle.hg_desk.specs.declared.locked.Counts.{Counts}

@@ -40,7 +40,7 @@ module _ {D : Type 0} (g : disk.Ghosts D) where
   point_of d = record { state = g.state d; past = g.past d; failures = g.failures d }
 
   abbrev pub points_of : Devices D → Devices Point
-  points_of devices = record { journal = point_of devices.journal; slots = point_of devices.slots; root0 = point_of devices.root0; root1 = point_of devices.root1 }
+  points_of devices = record { journal0 = point_of devices.journal0; journal1 = point_of devices.journal1; slots = point_of devices.slots; root0 = point_of devices.root0; root1 = point_of devices.root1 }
 
   abbrev pub began : ShownStore D → Began
   began s = record { devices = points_of s.devices; live = live g s; saved = saved g s; is_broken = s.is_broken }

@@ -3,6 +3,7 @@
 
 pub mod desk;
 pub mod locked;
+mod made;
 pub mod moment;
 mod offering;
 mod sets;

@@ -1,6 +1,6 @@
 //! The value behind the lock.
 
-ghost use Rattle.std.specs.Prelude.{◌≡◌, ◌+◌, ◌<◌, ◌≤◌, ◌^◌, ◌∷◌, ℕ, Ok, Err, cond, false, vec_len, All, IfOk, IfSome, IfErr, IsTrue};
+ghost use Rattle.std.specs.Prelude.{◌≡◌, ◌++◌, ◌+◌, ◌<◌, ◌≤◌, ◌^◌, ◌∷◌, ℕ, Ok, Err, cond, false, vec_len, All, IfOk, IfSome, IfErr, IsTrue};
 ghost use Rattle.hg_model.specs.declared.verdict.Refusal.TheVariants.{Broken};
 ghost use Rattle.hg_protocol.specs.Spelling.{FitsFrames};
 ghost use Rattle.hg_store.specs.Shown.{HasCounted, live, saved};
@@ -10,9 +10,10 @@ ghost use Rattle.hg_desk.specs.Conversation.{HadSince, MakesRoom, ReportsAnswer,
 ghost use Rattle.hg_desk.specs.Going.{began};
 ghost use Rattle.hg_store.specs.declared.steps.Step.TheVariants as step;
 ghost use Rattle.hg_store.specs.declared.steps.StepResult.TheVariants as told;
-ghost use Rattle.hg_desk.specs.Told.{StepKept, ack, fitting, made_durable, nothing_told, taken};
+ghost use Rattle.hg_desk.specs.Told.{StepKept, ack, fitting, listed, made_durable, nothing_told, taken};
 
 use crate::desk::refused;
+use crate::made::MadeStep;
 use crate::moment::Moment;
 use crate::offering::offer_to;
 use crate::sets::are_thread_sets;
@@ -103,6 +104,18 @@ fn note_durable<A: Opening, B: Column>(
     book.add(&mut share.durable_part, more);
     *count = total;
     share.durable += more;
+}
+
+/// Notes a step that was made. Offers and commits are counted, and not listed.
+#[inline(always)]
+fn note_step<A: Opening, B: Column>(share: &mut Share<A, B>, step: &Step, answer: &StepResult)
+    ensures { share.new ≡ record share.old { steps = listed step.now answer.now ++ share.old.steps } }
+{
+    match step {
+        Step::Offer(_) => {}
+        Step::Commit => {}
+        _ => share.steps.push(MadeStep::of(step, answer)),
+    }
 }
 
 /// How many events an offer accepted.
@@ -206,7 +219,7 @@ impl<D: Disk, A: Opening, B: Column> Core<D, A, B> {
         Ok((core, all))
     }
 
-    /// One step of the store, which the books and the share count. `Freeze` and `WriteRoot` take memory. It is inlined, since an answer may
+    /// One step of the store, which the books and the share count, and the share lists. `Freeze` and `WriteRoot` take memory. It is inlined, since an answer may
     /// have a page of 3 KiB, which would be copied.
     #[inline(always)]
     pub fn step(&mut self, alloc: Global, share: &mut Share<A, B>, step: &Step) -> StepResult
@@ -227,6 +240,7 @@ impl<D: Disk, A: Opening, B: Column> Core<D, A, B> {
             share,
             durable_by(before, &result),
         );
+        note_step(share, step, &result);
         result
     }
 

@@ -20,6 +20,7 @@ use Rattle.std.proofs.Crossing as general
 use Rattle.lru.proofs.cache.LruCache.TheSendSync as lru
 use Rattle.hg_detect.proofs.detector.Detector.TheSendSync as detector
 use Rattle.hg_journal.specs.contracts.journal.Journal as journals
+use Rattle.hg_journals.specs.contracts.pair.JournalPair as turns
 use Rattle.hg_gate.specs.contracts.log.Log as log
 use Rattle.hg_gate.specs.contracts.gated.Gated as gated
 use Rattle.hg_root.specs.contracts.pair.RootPair as roots
@@ -90,6 +91,33 @@ log_field D g d = struct_send (shape (log.the_type D g)) (
 journal_field : (D : RattleType) (g : disk.Ghosts D.Denot) → IsSend D → IsSend (journals.the_field D g).row
 journal_field D g d = struct_send (shape (journals.the_type D g)) (log_field D g d, (search (sendable, crosses) depth 60 fits 20000, tt))
 
+pair_field : (D : RattleType) (g : disk.Ghosts D.Denot) → IsSend D → IsSend (turns.the_field D g).row
+pair_field D g d = struct_send (shape (turns.the_type D g)) (
+  journal_field D g d,
+  (
+    journal_field D g d,
+    (
+      search (sendable, crosses) depth 20,
+      (
+        search (sendable, crosses) depth 20,
+        (
+          search (sendable, crosses) depth 20,
+          (
+            search (sendable, crosses) depth 20,
+            (
+              search (sendable, crosses) depth 20,
+              (
+                search (sendable, crosses) depth 20,
+                tt,
+              ),
+            ),
+          ),
+        ),
+      ),
+    ),
+  ),
+)
+
 gated_field : (D : RattleType) → IsSend D → IsSend (gated.the_field D).row
 gated_field D d = search (sendable, crosses, d) depth 60 fits 20000
 
@@ -122,7 +150,7 @@ checkpointer_field D g d = struct_send (shape (checkpointer.the_type D g)) (
 
 store_parts : (D : RattleType) (g : disk.Ghosts D.Denot) → IsSend D → AllSend (shape (within.the_type D g)).fields
 store_parts D g d = (
-  journal_field D g d,
+  pair_field D g d,
   (
     detector.the_send (pool.the_row D g) (pool_send D g d),
     (
@@ -139,7 +167,13 @@ store_parts D g d = (
                 search (sendable, crosses) depth 20,
                 (
                   search (sendable, crosses) depth 20,
-                  tt,
+                  (
+                    search (sendable, crosses) depth 20,
+                    (
+                      search (sendable, crosses) depth 20,
+                      tt,
+                    ),
+                  ),
                 ),
               ),
             ),

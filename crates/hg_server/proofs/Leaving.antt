@@ -7,7 +7,7 @@ use Rattle.hg_disk.specs.declared.disk.Disk as disk
 use Rattle.hg_detect.specs.Shown as detect
 use Rattle.hg_pool.specs.Maps as pools
 use Rattle.hg_pool.specs.Shown as pool
-use Rattle.hg_contents.specs.Images.{HasContent}
+use Rattle.hg_images.specs.Images.{HasContent}
 use Rattle.hg_store.specs.Journal.{after_refusal}
 use Rattle.hg_store.specs.declared.devices.Devices.{Devices}
 use Rattle.hg_store.specs.Images.{EachImage, EachImageAlong, HasContentOfOne, IsOn, Recovers, failures_of, read_of}

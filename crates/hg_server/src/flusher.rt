@@ -1,8 +1,8 @@
 //! The flusher, which makes checkpoints while clients go on.
 
-ghost use Rattle.std.specs.Prelude.{◌≡◌};
-ghost use Rattle.hg_desk.specs.Told.{may_accept};
-ghost use Rattle.hg_server.specs.Flushing.{IsToldOfNone};
+ghost use Rattle.std.specs.Prelude.{◌≡◌, true, false};
+ghost use Rattle.hg_desk.specs.Told.{IsListed, may_accept};
+ghost use Rattle.hg_server.specs.Flushing.{AreRetired, EndsCheckpoints, IsToldOfNone, StayRetired, may_open, opened};
 
 use crate::health::EventsTask;
 use crate::worker::{Gate, Pass, Point, Seat};
@@ -50,6 +50,16 @@ enum Course {
     Stop,
 }
 
+/// Whether a root was opened.
+fn is_opened(answer: &StepResult) -> bool
+    ensures { result ≡ opened answer.now }
+{
+    match answer {
+        StepResult::Opened(Ok(_)) => true,
+        _ => false,
+    }
+}
+
 /// A checkpoint that is made step by step, each in a hold of the lock of its own.
 #[derive(Drop)]
 struct Round<'a, D: Disk, A: Opening, B: Column, G, R> {
@@ -79,7 +89,7 @@ impl<'a, D: Disk, A: Opening, B: Column, G: Gate, R: Wait> Round<'a, D, A, B, G,
 
     /// What a step that was not made leads to: a store that is broken ends the flusher, and in another phase the round goes on from there.
     fn refused(&mut self, fault: StepFault) -> Course
-        ensures told { IsToldOfNone self.old.seat.share self.new.seat.share }
+        ensures told { EndsCheckpoints self.old.seat.share self.new.seat.share }
     {
         match fault {
             StepFault::WrongPhase(phase) => {
@@ -93,7 +103,7 @@ impl<'a, D: Disk, A: Opening, B: Column, G: Gate, R: Wait> Round<'a, D, A, B, G,
 
     /// The answer of a step that leads to this phase.
     fn reach<T: Drop>(&mut self, phase: StorePhase, done: Result<T, StepFault>) -> Course
-        ensures told { IsToldOfNone self.old.seat.share self.new.seat.share }
+        ensures told { EndsCheckpoints self.old.seat.share self.new.seat.share }
     {
         match done {
             Ok(_) => {
@@ -105,9 +115,10 @@ impl<'a, D: Disk, A: Opening, B: Column, G: Gate, R: Wait> Round<'a, D, A, B, G,
     }
 
     /// Makes one step of the store in a hold of its own, and offers no event.
-    fn step(&mut self, step: Step) -> StepResult
+    fn make(&mut self, step: Step) -> StepResult
         requires offers_none { may_accept step ≡ 0 }
         ensures told { IsToldOfNone self.old.seat.share self.new.seat.share }
+        ensures listed { IsListed step self.old.seat.share self.new.seat.share result }
     {
         let task = StepTask {
             alloc: self.seat.alloc,
@@ -118,18 +129,39 @@ impl<'a, D: Disk, A: Opening, B: Column, G: Gate, R: Wait> Round<'a, D, A, B, G,
             .hold(self.seat.rt, &mut self.seat.share, task)
     }
 
+    /// Makes one step of a checkpoint that opens no root.
+    fn step(&mut self, step: Step) -> StepResult
+        requires offers_none { may_accept step ≡ 0 }
+        requires opens_none { may_open step ≡ false }
+        ensures told { EndsCheckpoints self.old.seat.share self.new.seat.share }
+    {
+        self.make(step)
+    }
+
     /// How many events the store has accepted.
     fn events(&mut self) -> Result<u64, Refusal>
-        ensures told { IsToldOfNone self.old.seat.share self.new.seat.share }
+        ensures told { EndsCheckpoints self.old.seat.share self.new.seat.share }
     {
         self.seat
             .shared
             .hold(self.seat.rt, &mut self.seat.share, EventsTask)
     }
 
+    /// Commits, and begins a checkpoint in the same hold. Answers how many events are durable.
+    fn freeze(&mut self) -> Result<u64, StepFault>
+        ensures told { EndsCheckpoints self.old.seat.share self.new.seat.share }
+    {
+        let task = BeginTask {
+            alloc: self.seat.alloc,
+        };
+        self.seat
+            .shared
+            .hold(self.seat.rt, &mut self.seat.share, task)
+    }
+
     /// Commits and begins a checkpoint, where one is due when all accepted events are durable.
     fn begin(&mut self) -> Course
-        ensures told { IsToldOfNone self.old.seat.share self.new.seat.share }
+        ensures told { EndsCheckpoints self.old.seat.share self.new.seat.share }
     {
         let Ok(count) = self.events() else {
             return Course::Stop;
@@ -137,14 +169,7 @@ impl<'a, D: Disk, A: Opening, B: Column, G: Gate, R: Wait> Round<'a, D, A, B, G,
         if !self.due.is_due(count) {
             return Course::End;
         }
-        let task = BeginTask {
-            alloc: self.seat.alloc,
-        };
-        match self
-            .seat
-            .shared
-            .hold(self.seat.rt, &mut self.seat.share, task)
-        {
+        match self.freeze() {
             Ok(count) => {
                 self.due.begun = count;
                 self.seat.terms.note_due_from(self.due.next());
@@ -157,7 +182,7 @@ impl<'a, D: Disk, A: Opening, B: Column, G: Gate, R: Wait> Round<'a, D, A, B, G,
 
     /// Writes a page that was encoded.
     fn put(&mut self, page: EncodedPage) -> Course
-        ensures told { IsToldOfNone self.old.seat.share self.new.seat.share }
+        ensures told { EndsCheckpoints self.old.seat.share self.new.seat.share }
     {
         match self.step(Step::Put(page)) {
             StepResult::Put(Ok(_)) => self.pass(Point::Put),
@@ -168,7 +193,7 @@ impl<'a, D: Disk, A: Opening, B: Column, G: Gate, R: Wait> Round<'a, D, A, B, G,
 
     /// Encodes a page outside the lock, and writes it. Where memory is refused, the page waits on.
     fn flush(&mut self, job: Job) -> Course
-        ensures told { IsToldOfNone self.old.seat.share self.new.seat.share }
+        ensures told { EndsCheckpoints self.old.seat.share self.new.seat.share }
     {
         if self.pass(Point::JobTaken) == Course::Stop {
             return Course::Stop;
@@ -184,7 +209,7 @@ impl<'a, D: Disk, A: Opening, B: Column, G: Gate, R: Wait> Round<'a, D, A, B, G,
 
     /// Makes the pages durable.
     fn seal(&mut self) -> Course
-        ensures told { IsToldOfNone self.old.seat.share self.new.seat.share }
+        ensures told { EndsCheckpoints self.old.seat.share self.new.seat.share }
     {
         if self.pass(Point::BeforeSeal) == Course::Stop {
             return Course::Stop;
@@ -197,7 +222,7 @@ impl<'a, D: Disk, A: Opening, B: Column, G: Gate, R: Wait> Round<'a, D, A, B, G,
 
     /// Writes the page that is next, or makes the pages durable where none waits.
     fn write_page(&mut self) -> Course
-        ensures told { IsToldOfNone self.old.seat.share self.new.seat.share }
+        ensures told { EndsCheckpoints self.old.seat.share self.new.seat.share }
     {
         match self.step(Step::TakeJob) {
             StepResult::Taken(Ok(Some(job))) => self.flush(job),
@@ -209,7 +234,7 @@ impl<'a, D: Disk, A: Opening, B: Column, G: Gate, R: Wait> Round<'a, D, A, B, G,
 
     /// Closes the file that the root goes to.
     fn prepare(&mut self) -> Course
-        ensures told { IsToldOfNone self.old.seat.share self.new.seat.share }
+        ensures told { EndsCheckpoints self.old.seat.share self.new.seat.share }
     {
         match self.step(Step::PrepareRoot) {
             StepResult::Prepared(done) => self.reach(StorePhase::Prepared, done),
@@ -219,7 +244,7 @@ impl<'a, D: Disk, A: Opening, B: Column, G: Gate, R: Wait> Round<'a, D, A, B, G,
 
     /// Writes the root behind its closed gate.
     fn write_root(&mut self) -> Course
-        ensures told { IsToldOfNone self.old.seat.share self.new.seat.share }
+        ensures told { EndsCheckpoints self.old.seat.share self.new.seat.share }
     {
         match self.step(Step::WriteRoot) {
             StepResult::Written(done) => self.reach(StorePhase::Written, done),
@@ -227,23 +252,36 @@ impl<'a, D: Disk, A: Opening, B: Column, G: Gate, R: Wait> Round<'a, D, A, B, G,
         }
     }
 
-    /// Opens the root.
-    fn open_root(&mut self) -> Course
+    /// Gives up the events that the root counts, which was opened right before. That ends the checkpoint.
+    fn retire(&mut self) -> Course
         ensures told { IsToldOfNone self.old.seat.share self.new.seat.share }
+        ensures retired { AreRetired true self.old.seat.share.steps → AreRetired false self.new.seat.share.steps }
     {
-        let course = match self.step(Step::OpenRoot) {
-            StepResult::Opened(done) => self.reach(StorePhase::Idle, done),
+        match self.make(Step::Retire) {
+            StepResult::Retired(Ok(_)) => self.pass(Point::RootOpen),
+            StepResult::Retired(Err(Refusal::Broken)) => Course::Stop,
             _ => Course::End,
-        };
-        if course == Course::GoOn {
-            return self.pass(Point::RootOpen);
         }
-        course
+    }
+
+    /// Opens the root, and gives up the events that it counts in a hold behind it.
+    fn open_root(&mut self) -> Course
+        ensures told { EndsCheckpoints self.old.seat.share self.new.seat.share }
+    {
+        let answer = self.make(Step::OpenRoot);
+        if is_opened(&answer) {
+            self.phase = StorePhase::Idle;
+            return self.retire();
+        }
+        match answer {
+            StepResult::Opened(Err(fault)) => self.refused(fault),
+            _ => Course::End,
+        }
     }
 
     /// Makes the next step of the checkpoint.
     fn go_on(&mut self) -> Course
-        ensures told { IsToldOfNone self.old.seat.share self.new.seat.share }
+        ensures told { EndsCheckpoints self.old.seat.share self.new.seat.share }
     {
         match self.phase {
             StorePhase::Idle | StorePhase::Pending => Course::End,
@@ -256,7 +294,7 @@ impl<'a, D: Disk, A: Opening, B: Column, G: Gate, R: Wait> Round<'a, D, A, B, G,
 
     /// Notes it where the store is broken.
     fn watch(&mut self)
-        ensures told { IsToldOfNone self.old.seat.share self.new.seat.share }
+        ensures told { EndsCheckpoints self.old.seat.share self.new.seat.share }
     {
         if self.events().is_err() {
             self.seat.terms.health.note_broken();
@@ -266,7 +304,7 @@ impl<'a, D: Disk, A: Opening, B: Column, G: Gate, R: Wait> Round<'a, D, A, B, G,
     /// Goes on with the checkpoint in progress as far as it comes, or begins one where none is and one is due. Tells whether the flusher
     /// goes on.
     fn run(&mut self) -> Pass
-        ensures told { IsToldOfNone self.old.seat.share self.new.seat.share }
+        ensures told { EndsCheckpoints self.old.seat.share self.new.seat.share }
     {
         let mut course = match self.phase {
             StorePhase::Idle | StorePhase::Pending => self.begin(),
@@ -287,6 +325,7 @@ impl<'a, D: Disk, A: Opening, B: Column, G: Gate, R: Wait> Round<'a, D, A, B, G,
 
 /// Makes checkpoints, until its channel is closed and empty, the gate says stop or the store is broken, and gives the share back. At a
 /// nudge it goes on with the checkpoint that a refusal has held up. Where none is in progress, it begins one, with a commit, if it is due.
+/// A checkpoint ends with `retire`: that is the step behind each `open_root` that opened a root.
 /// It tells the workers from how many events on it wants to be nudged: a nudge that comes meanwhile waits in the channel.
 /// Each step is made in a hold of the lock of its own, and pages are encoded outside of it, so clients are answered meanwhile. It offers no
 /// event. Where the store is broken it notes that, at the latest when no nudge came for a second.
@@ -298,6 +337,8 @@ pub fn flusher<D: Disk, A: Opening, B: Column, G: Gate, R: Wait + Clock>(
     due: Due,
 ) -> Share<A, B>
     ensures told { IsToldOfNone seat.entry.share result }
+    // Each root that was opened has its retirement right behind it.
+    ensures retired { StayRetired seat.entry.share result }
 {
     let rt = seat.rt;
     let mut round = Round {

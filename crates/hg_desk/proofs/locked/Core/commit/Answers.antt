@@ -48,8 +48,9 @@ returns g c =
     let two : c.note_durable.new.share.durable ≡ c.args.share.now.durable + fitting c.self.inside.durable.total (made_durable c.note_moment-before.result result) =
     ap (λ (t : Told). t.durable) c.note_durable.ensures.share ∙ ap (λ (n : ℕ). c.args.share.now.durable + fitting c.self.inside.durable.total n) c.durable_by_commit.ensures in
     let three : c.note_durable.new.share.acks ≡ c.args.share.now.acks = ap (λ (t : Told). t.acks) c.note_durable.ensures.share in
+    let four : c.note_durable.new.share.steps ≡ c.args.share.now.steps = ap (λ (t : Told). t.steps) c.note_durable.ensures.share in
     let kept : StepKept g.D.Disk old new c.args.share.now c.note_durable.new.share Commit result =
     kept_on g.D.Disk g.A.Opening.start g.A.Column.opening g.B.Column.opening old new Commit result (steps g c)
     c.self.inside.accepted.total c.self.inside.durable.total c.self.inside.accepted_count c.self.inside.durable_count c.self.inside.moments c.self.inside.acks c.self.invariant
-    c.note_moment-before.result c.note_moment-before.ensures.durable c.args.share.now c.note_durable.new.share one two three in
+    c.note_moment-before.result c.note_moment-before.ensures.durable c.args.share.now c.note_durable.new.share one two three four in
     subst (λ (s : ShownStore g.row.D.Denot). StepKept g.D.Disk s new c.args.share.now c.note_durable.new.share Commit result) c.self.view_is kept

@@ -44,8 +44,9 @@ returns g c =
     let two : c.note_accepted.new.share.durable ≡ c.args.share.now.durable + fitting c.self.inside.durable.total 0 =
     ap (λ (t : Told). t.durable) c.note_accepted.ensures.share ∙ none g c c.args.share.now.durable in
     let three : c.note_accepted.new.share.acks ≡ c.args.share.now.acks = ap (λ (t : Told). t.acks) c.note_accepted.ensures.share in
+    let four : c.note_accepted.new.share.steps ≡ c.args.share.now.steps = ap (λ (t : Told). t.steps) c.note_accepted.ensures.share in
     let kept : StepKept g.D.Disk old new c.args.share.now c.note_accepted.new.share (Offer c.args.named.now) result =
     kept_on g.D.Disk g.A.Opening.start g.A.Column.opening g.B.Column.opening old new (Offer c.args.named.now) result (steps g c)
     c.self.inside.accepted.total c.self.inside.durable.total c.self.inside.accepted_count c.self.inside.durable_count c.self.inside.moments c.self.inside.acks c.self.invariant
-    c.note_moment-before.result c.note_moment-before.ensures.durable c.args.share.now c.note_accepted.new.share one two three in
+    c.note_moment-before.result c.note_moment-before.ensures.durable c.args.share.now c.note_accepted.new.share one two three four in
     subst (λ (s : ShownStore g.row.D.Denot). StepKept g.D.Disk s new c.args.share.now c.note_accepted.new.share (Offer c.args.named.now) result) c.self.view_is kept

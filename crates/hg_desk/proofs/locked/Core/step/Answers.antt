@@ -1,12 +1,12 @@
-use Rattle.std.proofs.Common.{rules, ◌≡◌, ◌+◌, ℕ, ap, subst, ◌∙◌}
+use Rattle.std.proofs.Common.{rules, ◌≡◌, ◌++◌, ◌+◌, ℕ, ap, subst, ◌∙◌}
 use Rattle.hg_store.specs.Shown.{ShownStore}
-use Rattle.hg_desk.specs.Told.{StepKept, Told, fitting, made_durable, taken}
+use Rattle.hg_desk.specs.Told.{StepKept, Told, fitting, listed, made_durable, taken}
 use Rattle.hg_desk.proofs.Counts.{Steps, core_after, kept_on}
 use Rattle.hg_desk.proofs.locked.Core.step.Given as given
 use Rattle.hg_desk.proofs.locked.Core.step.Goals as goal
 
 -- what holds once the step was made
-module _ (g : given.Over) (c : goal.After-note_durable g) where
+module _ (g : given.Over) (c : goal.After-note_step g) where
   steps : Steps g.D.Disk c.self.inside.store c.step-result.new.self c.args.step.now c.step-result.result
   steps = record {
     done = c.step-result.ensures.done;
@@ -34,15 +34,21 @@ returns g c =
     let old = c.self.inside.store in
     let new = c.step-result.new.self in
     let result = c.step-result.result in
-    let one : c.note_durable.new.share.accepted ≡ c.args.share.now.accepted + fitting c.self.inside.accepted.total (taken result) =
-    ap (λ (t : Told). t.accepted) c.note_durable.ensures.share ∙ ap (λ (t : Told). t.accepted) c.note_accepted.ensures.share
+    let told = c.note_step.new.share in
+    let one : told.accepted ≡ c.args.share.now.accepted + fitting c.self.inside.accepted.total (taken result) =
+    ap (λ (t : Told). t.accepted) c.note_step.ensures ∙ ap (λ (t : Told). t.accepted) c.note_durable.ensures.share ∙ ap (λ (t : Told). t.accepted) c.note_accepted.ensures.share
     ∙ ap (λ (n : ℕ). c.args.share.now.accepted + fitting c.self.inside.accepted.total n) c.accepted_by.ensures in
-    let two : c.note_durable.new.share.durable ≡ c.args.share.now.durable + fitting c.self.inside.durable.total (made_durable c.note_moment-before.result result) =
-    ap (λ (t : Told). t.durable) c.note_durable.ensures.share ∙ ap (λ (t : Told). t.durable + fitting c.self.inside.durable.total c.durable_by.result) c.note_accepted.ensures.share
+    let two : told.durable ≡ c.args.share.now.durable + fitting c.self.inside.durable.total (made_durable c.note_moment-before.result result) =
+    ap (λ (t : Told). t.durable) c.note_step.ensures ∙ ap (λ (t : Told). t.durable) c.note_durable.ensures.share
+    ∙ ap (λ (t : Told). t.durable + fitting c.self.inside.durable.total c.durable_by.result) c.note_accepted.ensures.share
     ∙ ap (λ (n : ℕ). c.args.share.now.durable + fitting c.self.inside.durable.total n) c.durable_by.ensures in
-    let three : c.note_durable.new.share.acks ≡ c.args.share.now.acks = ap (λ (t : Told). t.acks) c.note_durable.ensures.share ∙ ap (λ (t : Told). t.acks) c.note_accepted.ensures.share in
-    let kept : StepKept g.D.Disk old new c.args.share.now c.note_durable.new.share c.args.step.now result =
+    let three : told.acks ≡ c.args.share.now.acks =
+    ap (λ (t : Told). t.acks) c.note_step.ensures ∙ ap (λ (t : Told). t.acks) c.note_durable.ensures.share ∙ ap (λ (t : Told). t.acks) c.note_accepted.ensures.share in
+    let four : told.steps ≡ listed c.args.step.now result ++ c.args.share.now.steps =
+    ap (λ (t : Told). t.steps) c.note_step.ensures ∙ ap (λ (t : Told). listed c.args.step.now result ++ t.steps) c.note_durable.ensures.share
+    ∙ ap (λ (t : Told). listed c.args.step.now result ++ t.steps) c.note_accepted.ensures.share in
+    let kept : StepKept g.D.Disk old new c.args.share.now told c.args.step.now result =
     kept_on g.D.Disk g.A.Opening.start g.A.Column.opening g.B.Column.opening old new c.args.step.now result (steps g c)
     c.self.inside.accepted.total c.self.inside.durable.total c.self.inside.accepted_count c.self.inside.durable_count c.self.inside.moments c.self.inside.acks c.self.invariant
-    c.note_moment-before.result c.note_moment-before.ensures.durable c.args.share.now c.note_durable.new.share one two three in
-    subst (λ (s : ShownStore g.row.D.Denot). StepKept g.D.Disk s new c.args.share.now c.note_durable.new.share c.args.step.now result) c.self.view_is kept
+    c.note_moment-before.result c.note_moment-before.ensures.durable c.args.share.now told one two three four in
+    subst (λ (s : ShownStore g.row.D.Denot). StepKept g.D.Disk s new c.args.share.now told c.args.step.now result) c.self.view_is kept
