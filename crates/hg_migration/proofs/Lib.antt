@@ -1,0 +1,4 @@
+pub mod Built
+pub mod Copied
+pub mod Emptied
+pub mod Kept
