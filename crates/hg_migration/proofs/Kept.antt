@@ -83,7 +83,7 @@ apart (Open n xs) Spare base batches spare events one_is other_is are closed =
 pub events_stay : EventsStay
 events_stay batches spare events closed = (
   λ has. together (base_front 0 ++ batches) spare events (events_same header (base_front 0) batches events has.0) closed has.1,
-  λ have. (events_same (base_front 0) header batches events (apart have.one have.other 0 batches spare events have.one_is have.other_is have.are closed).1, have.fits),
+  λ have. (events_same (base_front 0) header batches events (apart have.one have.other 0 batches spare events have.one_is have.other_is have.are closed).1, omega (arith, have.fits)),
 )
 
 -- ---- contents

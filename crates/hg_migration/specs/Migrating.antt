@@ -11,7 +11,7 @@ use Rattle.hg_store.specs.Images.{states_of}
 use Rattle.hg_store.specs.declared.devices.Devices.{Devices}
 use Rattle.hg_migration.specs.Building.{AreBuilt, BuildsInTurn}
 use Rattle.hg_migration.specs.Copying.{pieces_in}
-use Rattle.hg_migration.specs.Fault.{failures_after}
+use Rattle.hg_migration.specs.Fault.{after_fault}
 use Rattle.hg_migration.specs.Laws.{HasFormerContents}
 use Rattle.hg_migration.specs.declared.fault.MigrationFault.{MigrationFault}
 use Rattle.hg_migration.specs.declared.fault.MigrationFault.TheVariants.{Damaged, DeviceFault, NotEmpty}
@@ -45,6 +45,11 @@ module _ {D : Type 0} where
   abbrev pub HasSlotsAndRoots : OldDevices D → Answer D → Type 0
   HasSlotsAndRoots old (Ok made) = (made.devices.slots ≡ old.slots) × (made.devices.root0 ≡ old.root0) × (made.devices.root1 ≡ old.root1)
   HasSlotsAndRoots old (Err refused) = (refused.old.slots ≡ old.slots) × (refused.old.root0 ≡ old.root0) × (refused.old.root1 ≡ old.root1)
+
+  -- how many device calls have failed after it; n had failed before it
+  abbrev pub failures_in : Answer D → ℕ → ℕ
+  failures_in (Ok made) n = n
+  failures_in (Err refused) n = after_fault refused.fault n
 
   -- All devices are handed back as they were: none was called.
   abbrev pub HandsBack : OldDevices D → (journal0 journal1 : D) → NotMigrated D → Type 0
@@ -88,11 +93,6 @@ module _ {D : Type 0} (g : disk.Ghosts D) where
   -- how many calls of the journal and of the new files have failed
   abbrev pub failures_of : (journal journal0 journal1 : D) → ℕ
   failures_of journal journal0 journal1 = g.failures journal + g.failures journal0 + g.failures journal1
-
-  -- how many have after this answer; n had before it
-  abbrev pub failures_in : Answer D → ℕ → ℕ
-  failures_in (Ok made) n = n
-  failures_in (Err refused) n = failures_after {T = Unit {0}} (Err refused.fault) n
 
   -- At most so many calls: with k pieces of 64 KiB, k + 2 of the old journal, k + 6 of the first new file, and two of the
   -- second.

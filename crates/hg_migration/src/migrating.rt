@@ -1,9 +1,9 @@
 //! A store over five devices, made of one of the former form.
-ghost use Rattle.std.specs.Prelude.{◌≡◌, ◌≢◌, ◌⊎◌, ◌≤◌, [], length, Err, IsTrue, IfOk, IfErr, OnOk, IsErrOf};
+ghost use Rattle.std.specs.Prelude.{◌≡◌, ◌≢◌, ◌⊎◌, ◌≤◌, ◌↔◌, length, Err, IsTrue, IfOk, IfErr, OnOk, IsErrOf};
 ghost use Rattle.hg_disk.specs.Calls.{CallsAtMost};
 ghost use Rattle.hg_disk.specs.Moments.{AddsNoImage};
-ghost use Rattle.hg_disk.specs.State.{settled};
 ghost use Rattle.hg_gate.specs.Reading.{WasRead};
+ghost use Rattle.hg_gate.specs.declared.reader.TheConstants.{PIECE_LEN as PIECE};
 ghost use Rattle.hg_migration.specs.Building.{AreBuilt, BuildsInTurn};
 ghost use Rattle.hg_migration.specs.Fault.{failures_after};
 ghost use Rattle.hg_migration.specs.Migrating.{AreEmpty, AreUncalled, FewCalls, HandsBack, HasHeader, HasSlotsAndRoots, HaveFormerContents, IsDamagedOrDevice, KeepsOldBytes, ReadsSameOrFault, WritesBehindHeader, failures_in, failures_of, journal0_in, journal1_in, journal_in};
@@ -12,7 +12,7 @@ use crate::building::build;
 use crate::fault::MigrationFault;
 use hg_disk::Disk;
 use hg_gate::PIECE_LEN;
-use hg_store::Devices;
+use hg_store::devices::Devices;
 use std::alloc::Global;
 
 // What an old journal begins with.
@@ -88,17 +88,27 @@ fn prepare<D: Disk>(journal: &mut D) -> Result<(), MigrationFault>
     read_header(journal)
 }
 
-// Makes the new journals of an old one on two empty disks.
-fn make_journals<D: Disk>(
-    alloc: Global,
+// Whether neither file has a byte.
+fn are_empty<D: Disk>(journal0: &D, journal1: &D) -> bool
+    ensures { IsTrue result ↔ AreEmpty ⟦<D as Disk>⟧ journal0.now journal1.now }
+{
+    if journal0.len() > 0 {
+        return false;
+    }
+    journal1.len() == 0
+}
+
+// Makes the new journals of an old one on two empty disks, where it has its header.
+fn copy_journal<D: Disk>(
     journal: &mut D,
     journal0: &mut D,
     journal1: &mut D,
+    buffer: &mut [u8],
 ) -> Result<(), MigrationFault>
-    ensures empty { result ≢ Err MigrationFault.NotEmpty → AreEmpty ⟦<D as Disk>⟧ journal0.old journal1.old }
-    ensures not_empty { IsErrOf result MigrationFault.NotEmpty → ¬ AreEmpty ⟦<D as Disk>⟧ journal0.old journal1.old }
-    ensures uncalled { IfErr result (λ e. (e ≢ MigrationFault.DeviceFault) → AreUncalled journal0.old journal0.new journal1.old journal1.new) }
-    ensures unread { IfErr result (λ e. (e ≡ MigrationFault.NotEmpty) ⊎ (e ≡ MigrationFault.OutOfMemory) → journal.new ≡ journal.old) }
+    requires empty { AreEmpty ⟦<D as Disk>⟧ journal0.old journal1.old }
+    requires buffer { length buffer.old ≡ PIECE }
+    ensures fault { IfErr result IsDamagedOrDevice }
+    ensures uncalled { IfErr result (λ e. e ≢ MigrationFault.DeviceFault → AreUncalled journal0.old journal0.new journal1.old journal1.new) }
     ensures damaged { IsTrue D.is_honest → IsErrOf result MigrationFault.Damaged → ¬ HasHeader ⟦<D as Disk>⟧ journal.old }
     ensures begins { WritesBehindHeader ⟦<D as Disk>⟧ journal.old journal0.old journal0.new journal1.old journal1.new }
     ensures header { IsTrue D.is_honest → OnOk result (HasHeader ⟦<D as Disk>⟧ journal.old) }
@@ -109,15 +119,38 @@ fn make_journals<D: Disk>(
     ensures calls { FewCalls ⟦<D as Disk>⟧ journal.old journal0.old journal1.old journal.new journal0.new journal1.new }
     ensures device { failures_of ⟦<D as Disk>⟧ journal.new journal0.new journal1.new ≡ failures_after result (failures_of ⟦<D as Disk>⟧ journal.old journal0.old journal1.old) }
 {
-    if journal0.len() > 0 {
-        return Err(MigrationFault::NotEmpty);
+    match prepare(journal) {
+        Ok(()) => Ok(build(journal, journal0, journal1, buffer)?),
+        Err(fault) => Err(fault),
     }
-    if journal1.len() > 0 {
+}
+
+// Makes the new journals of an old one.
+fn make_journals<D: Disk>(
+    alloc: Global,
+    journal: &mut D,
+    journal0: &mut D,
+    journal1: &mut D,
+) -> Result<(), MigrationFault>
+    ensures empty { result ≢ Err MigrationFault.NotEmpty → AreEmpty ⟦<D as Disk>⟧ journal0.old journal1.old }
+    ensures not_empty { IsErrOf result MigrationFault.NotEmpty → ¬ AreEmpty ⟦<D as Disk>⟧ journal0.old journal1.old }
+    ensures unread { IfErr result (λ e. (e ≡ MigrationFault.NotEmpty) ⊎ (e ≡ MigrationFault.OutOfMemory) → journal.new ≡ journal.old) }
+    ensures uncalled { IfErr result (λ e. e ≢ MigrationFault.DeviceFault → AreUncalled journal0.old journal0.new journal1.old journal1.new) }
+    ensures damaged { IsTrue D.is_honest → IsErrOf result MigrationFault.Damaged → ¬ HasHeader ⟦<D as Disk>⟧ journal.old }
+    ensures begins { WritesBehindHeader ⟦<D as Disk>⟧ journal.old journal0.old journal0.new journal1.old journal1.new }
+    ensures header { IsTrue D.is_honest → OnOk result (HasHeader ⟦<D as Disk>⟧ journal.old) }
+    ensures made { OnOk result (AreBuilt ⟦<D as Disk>⟧ (D.state journal.old).contents journal0.new journal1.new) }
+    ensures bytes { ReadsSameOrFault ⟦<D as Disk>⟧ journal.old journal.new result }
+    ensures old_moments { AddsNoImage ⟦<D as Disk>⟧ journal.old journal.new }
+    ensures any_moment { BuildsInTurn ⟦<D as Disk>⟧ (D.state journal.old).contents journal0.old journal0.new journal1.old journal1.new }
+    ensures calls { FewCalls ⟦<D as Disk>⟧ journal.old journal0.old journal1.old journal.new journal0.new journal1.new }
+    ensures device { failures_of ⟦<D as Disk>⟧ journal.new journal0.new journal1.new ≡ failures_after result (failures_of ⟦<D as Disk>⟧ journal.old journal0.old journal1.old) }
+{
+    if !are_empty(journal0, journal1) {
         return Err(MigrationFault::NotEmpty);
     }
     let mut buffer = vec![in alloc; 0; PIECE_LEN]?;
-    prepare(journal)?;
-    Ok(build(journal, journal0, journal1, &mut buffer)?)
+    copy_journal(journal, journal0, journal1, &mut buffer)
 }
 
 /// Makes a store over five devices of one of the former form, with two files that have no byte: the first one takes the
