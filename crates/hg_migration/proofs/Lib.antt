@@ -1,0 +1,5 @@
+pub mod Built
+pub mod Copied
+pub mod Emptied
+pub mod Kept
+pub mod Whole
