@@ -73,7 +73,7 @@ pub(crate) struct NumberOption {
 /// The flag for a checkpoint.
 pub(crate) const CHECKPOINT_FLAG: Switch = Switch {
     name: CHECKPOINT,
-    help: "At the end make a checkpoint, so that the store opens faster",
+    help: "At the end make a checkpoint, so that the store opens faster; events up to it are no longer kept",
 };
 
 /// The flag for each line.
