@@ -81,8 +81,8 @@ fn see_that_it_is_a_file(rt: &HostRuntime, path: &str) -> io::Result<()> {
     }
 }
 
-/// Whether a directory has a store of the former form, with one journal in a file `journal`: it has that file, and no `journal0`. Where
-/// there is no memory to look, it has not.
+/// Whether a directory has a store of the former form, with one journal in a file `journal`: it has that file, and no `journal0`, or one
+/// without a byte. Where there is no memory to look, it has not.
 pub fn has_former_store(rt: &HostRuntime, directory: &str) -> bool {
     let (Ok(former), Ok(journal0)) = (
         path_of(rt, directory, "journal"),
@@ -90,7 +90,11 @@ pub fn has_former_store(rt: &HostRuntime, directory: &str) -> bool {
     ) else {
         return false;
     };
-    fs::metadata(rt, former.as_str()).is_ok() && fs::metadata(rt, journal0.as_str()).is_err()
+    let has_bytes = match fs::metadata(rt, journal0.as_str()) {
+        Ok(found) => found.len() > 0,
+        Err(_) => false,
+    };
+    fs::metadata(rt, former.as_str()).is_ok() && !has_bytes
 }
 
 /// How a file is opened.
