@@ -1,5 +1,5 @@
 -- What is explained of a trace text and of a store.
-use Rattle.std.specs.Prelude.{◌≡◌, ◌⊎◌, ◌≤◌, ℕ, Bool, true, false, Option, None, Some, List, [], ◌∷◌, ◌++◌, codes, decimal}
+use Rattle.std.specs.Prelude.{◌≡◌, ◌⊎◌, ◌≤◌, ℕ, Bool, true, false, Option, None, Some, List, [], ◌++◌, codes, decimal}
 use Rattle.hg_model.specs.declared.verdict.Refusal.{Refusal}
 use Rattle.hg_model.specs.declared.verdict.Refusal.TheVariants.{OutOfMemory}
 use Rattle.hg_options.specs.declared.task.Explaining.{Explaining}
@@ -10,6 +10,7 @@ use Rattle.hg_check.specs.Explaining as word
 use Rattle.hg_check.specs.RaceLife as race
 use Rattle.hg_streams.specs.Faults.{EndsByFault, IsStreamFault, IsTold, TellsNoFault}
 use Rattle.hg_streams.specs.Shown.{Outgoing}
+use Rattle.hg_streams.specs.Texts.{line_text}
 use Rattle.hg_streams.specs.Written.{Took}
 use Rattle.hg_streams.specs.declared.output.Outputs.{Outputs}
 use Rattle.hg_streams.specs.declared.streams.Streams.{Streams}
@@ -51,7 +52,7 @@ module _ {D W V : Type 0} (g : disk.Ghosts D) where
 
 -- the line that tells up to which event the events are no longer kept
 abbrev pub gone_text : ℕ → List ℕ
-gone_text last = codes "events 1 to " ++ decimal last ++ codes " are no longer kept" ++ 10 ∷ []
+gone_text last = line_text ((codes "events 1 to " ++ decimal last) ++ codes " are no longer kept")
 
 -- That was printed and flushed, with status 2; or a fault of the output or of memory was told.
 abbrev pub SaysGone : {W V : Type 0} → ℕ → Outputs W V → Outputs W V → ℕ → Type 0

@@ -1,6 +1,8 @@
 //! Commands on the store in a directory.
 
-ghost use Rattle.std.specs.Prelude.{◌≡◌, IfOk, false, string_bytes};
+ghost use Rattle.std.specs.Prelude.{◌≡◌, IfErr, IfOk, OnOk, false};
+ghost use Rattle.hg_streams.specs.Faults.{IsStreamFault};
+ghost use Rattle.hg_streams.specs.Written.{Took};
 ghost use Rattle.hg_store.specs.Limits.{IsFrameCount};
 ghost use Rattle.hg_tasks.specs.Exits.{ListsAndExits};
 ghost use Rattle.hg_tasks.specs.Explaining.{ExplainsEvents, ExplainsStore, SaysGone, SaysNoRace, gone_text};
@@ -14,6 +16,7 @@ use crate::status::exit_status;
 use crate::streams::{noted_outputs, noted_streams, plain_outputs, plain_streams};
 use hg_check::explain::commands::explain;
 use hg_check::explain::form::Form;
+use hg_check::explain::pieces::{hold, hold_number};
 use hg_commands::creating::create_store;
 use hg_commands::feeding::feed;
 use hg_commands::listing::{Listed, list_store};
@@ -25,6 +28,7 @@ use hg_options::limits::DEFAULT_FRAMES;
 use hg_options::task::{ErrorExitcode, Explaining, Frames, Subject};
 use hg_store::devices::{Caps, Devices};
 use hg_store::store::Store;
+use hg_streams::holding::end_line;
 use hg_streams::input::Input;
 use hg_streams::listing::Listing;
 use hg_streams::output::{Output, Outputs};
@@ -32,10 +36,9 @@ use hg_streams::printing::print_now;
 use hg_streams::streams::Streams;
 use hg_streams::telling::end_by_fault;
 use hg_verbose::lines::Lines;
-use std::alloc::{AllocError, Global};
+use std::alloc::Global;
 use std::io::Write;
 use std::marker::Sync;
-use std::string::String;
 use std::thread::Threads;
 
 /// The status where a store has no such report, or no longer has all events.
@@ -193,22 +196,44 @@ fn say_no_race<D: Disk, W: Write, V: Write>(
 }
 
 /// The line that tells up to which event a store no longer keeps its events.
-fn gone_line(alloc: Global, last: u64) -> Result<String, AllocError>
-    ensures { IfOk result (λ line. string_bytes line ≡ gone_text last) }
+fn gone_line(alloc: Global, last: u64) -> Result<Vec<u8>, Refusal>
+    ensures text { IfOk result (λ line. line.items ≡ gone_text last) }
+    ensures cause { IfErr result (λ r. r ≡ Refusal.OutOfMemory) }
 {
-    format!(in alloc; "events 1 to {last} are no longer kept\n")
+    let mut line = Vec::new(alloc);
+    hold_number(b"events 1 to ", last, &mut line)?;
+    hold(b" are no longer kept", &mut line)?;
+    end_line(&mut line)?;
+    Ok(line)
+}
+
+/// Prints up to which event a store no longer keeps its events.
+fn print_gone<W: Write>(alloc: Global, last: u64, output: &mut Output<W>) -> Result<(), Refusal>
+    ensures printed { OnOk result (Took output.old.calls output.new.calls (gone_text last)) }
+    ensures cause { IfErr result IsStreamFault }
+{
+    let line = gone_line(alloc, last)?;
+    print_now(line.as_slice(), output)
 }
 
 /// Prints up to which event a store no longer keeps its events, and answers the status.
 fn say_gone<W: Write, V: Write>(alloc: Global, last: u64, outputs: &mut Outputs<W, V>) -> u8
     ensures { SaysGone last outputs.old outputs.new result }
 {
-    let Ok(line) = gone_line(alloc, last) else {
-        return end_by_fault(Refusal::OutOfMemory, &mut outputs.faults);
-    };
-    match print_now(line.as_bytes(), &mut outputs.output) {
+    match print_gone(alloc, last, &mut outputs.output) {
         Ok(()) => NOT_THERE,
         Err(refusal) => end_by_fault(refusal, &mut outputs.faults),
+    }
+}
+
+/// The number of the last event that a store no longer keeps, 0 where it keeps all.
+fn gone_of<D: Disk>(store: &Store<D>) -> u64
+    requires works { store.now.is_broken ≡ false }
+    ensures { result ≡ store.now.turns.base }
+{
+    match store.first_kept() {
+        Ok(first) => first - 1,
+        Err(_) => 0,
     }
 }
 
@@ -224,13 +249,7 @@ fn explain_store<D: Disk + Drop, W: Write, V: Write>(
     ensures { ExplainsStore ⟦<D as Disk>⟧ store explaining outputs result }
 {
     let mut outputs = outputs;
-    let gone = match store.first_kept() {
-        Ok(first) => first - 1,
-        Err(refusal) => {
-            let status = end_by_fault(refusal, &mut outputs.faults);
-            return (status, outputs);
-        }
-    };
+    let gone = gone_of(&store);
     if gone > 0 {
         let status = say_gone(alloc, gone, &mut outputs);
         return (status, outputs);

@@ -1,4 +1,4 @@
-use Rattle.std.proofs.Common.{◌∙◌, Some, ap, inl, refl, subst, sym}
+use Rattle.std.proofs.Common.{arith, ◌∙◌, Some, ap, inl, refl, subst, sym}
 use Rattle.hg_commands.specs.Races.{FindsRace}
 use Rattle.hg_tasks.specs.Explaining.{IsAskedFor}
 use Rattle.hg_tasks.proofs.stores.explain_store.Goals as goal
@@ -6,6 +6,7 @@ use Rattle.hg_tasks.proofs.stores.explain_store.Goals.{in-Word, in-Race+in-Ok-So
 
 pub returns : goal.returns
 returns g c = inl (record {
+  whole = omega (arith, c.gone_of-gone.ensures, c.if-gone-gt0.false);
   address = c.match-explaining.address;
   asked = elim c.match-explaining.branch [
     | in-Word w ↦ subst (λ x. IsAskedFor g.D.Disk x c.args.store (Some c.match-explaining.address)) (sym w.in-Word.is) (ap Some w.address-is)
