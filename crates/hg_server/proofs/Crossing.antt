@@ -33,10 +33,15 @@ use Rattle.hg_trail.proofs.trail.Trail.TheLaws.TheKnot as knot
 use Rattle.hg_desk.specs.declared.share.Column as column
 use Rattle.hg_desk.specs.declared.share.Opening as opening
 use Rattle.hg_receipts.specs.declared.view.Room as room
+use Rattle.std.proofs.sync.ledger.Share.TheSendSync as part
+use Rattle.hg_receipts.proofs.register.Receipts.TheSendSync as receipts
 use Rattle.hg_receipts.proofs.register.Register.TheSendSync as register
+use Rattle.hg_desk.specs.contracts.share.Share as share
+use Rattle.hg_desk.specs.contracts.share.Share.TheInside as told
 use Rattle.hg_desk.specs.contracts.locked.Core as core
 use Rattle.hg_desk.specs.contracts.locked.Core.TheInside as locked
 use Rattle.hg_desk.specs.contracts.shared.Shared as shared
+use Rattle.hg_server.specs.contracts.piece.Station as station
 use Rattle.hg_server.specs.contracts.wire.Guest as guest
 use Rattle.hg_server.specs.contracts.wire.Wire as wire
 
@@ -210,6 +215,27 @@ module _ (D A B : RattleType) (g : disk.Ghosts D.Denot) (o : opening.Ghosts A.De
 
   pub shared_sync : IsSend D → IsSync (shared.the_row D A B g o c l r c' l')
   shared_sync d = let value = core_send d in search (value, sendable, crosses) depth 60 fits 20000
+
+-- A share crosses threads, and what a worker begins with.
+module _ (A B : RattleType) (o : opening.Ghosts A.Denot) (c : column.Ghosts A.Denot) (l : ledger.Ghosts A.Denot) (r : room.Ghosts A.Denot)
+    (c' : column.Ghosts B.Denot) (l' : ledger.Ghosts B.Denot) where
+  share_parts : AllSend (shape (told.the_type A B o c l r c' l')).fields
+  share_parts = (
+    search (sendable, crosses) depth 20,
+    (
+      search (sendable, crosses) depth 20,
+      (part.the_send A l, (part.the_send B l', (receipts.the_send A r, (search (sendable, crosses, knot.crosses) depth 20, tt)))),
+    ),
+  )
+
+  pub share_send : IsSend (share.the_row A B o c l r c' l')
+  share_send =
+      view_send _ _ _ _ _ (recorded_send _ _ _ (told.the_type A B o c l r c' l').to_one (struct_send (shape (told.the_type A B o c l r c' l')) share_parts))
+
+  pub station_send : IsSend (station.the_row A B o c l r c' l')
+  station_send =
+      recorded_send _ _ _ (station.the_type A B o c l r c' l').to_one
+      (struct_send (shape (station.the_type A B o c l r c' l')) (share_send, (search (sendable, crosses) depth 60 fits 20000, tt)))
 
 -- A connection that waits for its conversation crosses threads where the connection does.
 wire_field : (S : RattleType) → IsSend S → IsSend (wire.the_field S).row

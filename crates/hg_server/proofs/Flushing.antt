@@ -1,5 +1,5 @@
 -- What a step of the flusher adds to its list.
-use Rattle.std.proofs.Common.{◌≡◌, ◌++◌, ◌∷◌, List, Bool, true, false, inl, inr, Result, refl, sym, subst, ◌∙◌}
+use Rattle.std.proofs.Common.{◌≡◌, ◌++◌, [], ◌∷◌, List, Bool, true, false, inl, inr, Result, refl, sym, subst, ◌∙◌}
 use Rattle.std.proofs.lemmas.Bool.{false≢true, true≢false}
 use Rattle.hg_store.specs.declared.steps.Step.{Step}
 use Rattle.hg_store.specs.declared.steps.Step.TheVariants as step
