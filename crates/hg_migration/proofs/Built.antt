@@ -1,5 +1,5 @@
 -- The two new files while they are built.
-use Rattle.std.proofs.Common.{◌≡◌, ◌+◌, ◌-◌, ◌≤◌, ◌⊎◌, inl, inr, ℕ, IsTrue, List, [], ◌∷◌, ◌++◌, length, take, drop, refl, sym, ◌∙◌, ap, subst, arith}
+use Rattle.std.proofs.Common.{◌≡◌, ◌-◌, ◌≤◌, ◌⊎◌, inl, inr, ℕ, List, [], ◌∷◌, ◌++◌, length, refl, ◌∙◌, ap, subst, arith}
 use Rattle.std.proofs.lemmas.Bool.{cases_eq}
 use Rattle.std.proofs.lemmas.List.{take_rest}
 use Rattle.hg_disk.specs.declared.disk.Disk as disk
@@ -8,10 +8,10 @@ use Rattle.hg_disk.specs.Moments.{LeavesOnly}
 use Rattle.hg_disk.specs.State.{DiskState, IsImage, after_write, overwritten, settled}
 use Rattle.hg_disk.proofs.Images.{overwritten_at}
 use Rattle.hg_disk.proofs.Moments.{at_end, may_leave, started, weaker}
-use Rattle.hg_gate.specs.Batches.{IsClosed, base_front, closed_gate, open_gate}
+use Rattle.hg_gate.specs.Batches.{IsClosed, closed_gate, open_gate}
 use Rattle.hg_gate.proofs.Gates.{behind_gate}
 use Rattle.hg_journals.specs.Pairs.{EachImage}
-use Rattle.hg_migration.specs.Building.{AreBuilt, FillsFirst, GatesFirst, GatesSecond, HasCopy, InTurn, IsCopy, IsFilled, IsTornGate, OpensFirst, zero_front}
+use Rattle.hg_migration.specs.Building.{HasCopy, InTurn, IsCopy, IsFilled, IsTornGate, zero_front}
 use Rattle.hg_migration.specs.Copying.{AreRead}
 
 -- the gate that is made in an empty file

@@ -1,17 +1,15 @@
 -- Bytes that are copied by pieces.
-use Rattle.std.proofs.Common.{◌≡◌, ◌≢◌, ◌≤◌, ◌+◌, ◌/◌, ℕ, zero, suc, IsTrue, Result, OnOk, OnErr, List, [], ◌∷◌, ◌++◌, length, take, drop, refl, sym, ◌∙◌, ap, subst, arith, append_assoc, length-append}
+use Rattle.std.proofs.Common.{◌≡◌, ◌≤◌, ◌+◌, ◌/◌, ℕ, zero, suc, Result, OnOk, OnErr, List, [], ◌∷◌, ◌++◌, length, take, drop, refl, sym, ◌∙◌, ap, subst, arith, append_assoc, length-append}
 use Rattle.std.proofs.Math.Seq.{take-add}
 use Rattle.std.proofs.lemmas.List.{append-nil, drop-drop, nil_from_length}
 use Rattle.hg_disk.specs.declared.disk.Disk as disk
-use Rattle.hg_disk.specs.State.{DiskState, SameImages, after_write, overwritten}
-use Rattle.hg_disk.specs.Laws.{KeepsBytes}
-use Rattle.hg_disk.specs.Moments.{LeavesOnly}
+use Rattle.hg_disk.specs.State.{SameImages, after_write, overwritten}
 use Rattle.hg_disk.proofs.Images.{overwritten_at}
 use Rattle.hg_disk.proofs.Keeping.{keeps_image}
 use Rattle.hg_disk.proofs.Moments.{joined, started}
-use Rattle.hg_gate.specs.Batches.{IsClosed, open_gate}
+use Rattle.hg_gate.specs.Batches.{IsClosed}
 use Rattle.hg_gate.proofs.Gates.{written_kept, write_shut}
-use Rattle.hg_migration.specs.Copying.{Appends, AreRead, KeepsGate, StaysClosed}
+use Rattle.hg_migration.specs.Copying.{Appends, KeepsGate, StaysClosed}
 
 drop_none : (n : ℕ) → drop {A = ℕ} n [] ≡ []
 drop_none zero = refl

@@ -2,7 +2,7 @@
 use Rattle.std.proofs.Common.{◌≡◌, ℕ, List, [], ◌∷◌, OnOk, OnErr, Result, get_or, ◌∙◌, subst, length, arith}
 use Rattle.hg_disk.specs.declared.disk.Disk as disk
 use Rattle.hg_disk.specs.Kept.{image_of_cut}
-use Rattle.hg_disk.specs.Moments.{Leaves, LeavesOnly}
+use Rattle.hg_disk.specs.Moments.{LeavesOnly}
 use Rattle.hg_disk.specs.State.{DiskState, IsImage, SameImages, after_cut, after_sync, settled}
 use Rattle.hg_disk.proofs.Moments.{at_end, joined, started, sync_leaves, weaker}
 use Rattle.hg_migration.specs.Emptying.{Empties, IsOpen}

@@ -1,5 +1,5 @@
 -- A journal behind another front, and what it gives.
-use Rattle.std.proofs.Common.{◌≡◌, inl, inr, ◌≤◌, ◌+◌, ◌-◌, ℕ, zero, suc, List, [], ◌∷◌, ◌++◌, length, take, drop, map, Option, Some, None, refl, sym, ◌∙◌, ap, subst, arith, append_assoc}
+use Rattle.std.proofs.Common.{◌≡◌, inl, inr, ◌≤◌, ◌-◌, ℕ, zero, suc, List, [], ◌∷◌, ◌++◌, length, take, drop, map, Option, Some, None, refl, sym, ◌∙◌, ap, subst, arith, append_assoc}
 use Rattle.std.specs.Prelude.{IfSome}
 use Rattle.std.specs.List.{AllByRecursion, flat_map}
 use Rattle.std.proofs.lemmas.List.{append-nil, drop_at, take_at}
@@ -14,7 +14,7 @@ use Rattle.hg_gate.proofs.Basing.{based_is_open, front_of, same_number}
 use Rattle.hg_gate.proofs.Opening.{not_closed}
 use Rattle.hg_gate.proofs.Reading.{behind}
 use Rattle.hg_journal.specs.File.{IsJournalFile, JournalFile, Open, Spare}
-use Rattle.hg_journal.specs.Journal.{IsJournal, IsJournalBehind, batch_text}
+use Rattle.hg_journal.specs.Journal.{IsJournalBehind, batch_text}
 use Rattle.hg_journals.specs.Journals.{AreJournals, HaveJournals}
 use Rattle.hg_root.specs.Checkpoints.{Checkpoint, HasPages, root_of}
 use Rattle.hg_root.specs.Lawful.{IsLawful}
@@ -27,7 +27,7 @@ use Rattle.hg_contents.proofs.Following.{counted}
 use Rattle.hg_contents.proofs.lawful.Roots.{root_state}
 use Rattle.hg_contents.proofs.lawful.Staying.{first, followed_stay}
 use Rattle.hg_images.specs.Images as images
-use Rattle.hg_migration.specs.Laws.{ContentIsKept, ContentsStay, EventsStay, HasEvents, former_image}
+use Rattle.hg_migration.specs.Laws.{ContentIsKept, ContentsStay, EventsStay, former_image}
 
 -- ---- the same batches behind another front
 

@@ -28,8 +28,8 @@ fault_beside Damaged before after b c is = omega (arith, is)
 fault_beside DeviceFault before after b c is = omega (arith, is)
 fault_beside OutOfMemory before after b c is = omega (arith, is)
 
-pub failed_beside : {T : Type 0} (fault : MigrationFault) (before after b c : ℕ) → after ≡ failures_after {T = T} (Err fault) before → after + b + c ≡ failures_after {T = T} (Err fault) (before + b + c)
-failed_beside fault before after b c is = fault_beside fault before after b c is
+pub failed_beside : (T : Type 0) (fault : MigrationFault) (before after b c : ℕ) → after ≡ failures_after {T = T} (Err fault) before → after + b + c ≡ failures_after {T = T} (Err fault) (before + b + c)
+failed_beside T fault before after b c is = fault_beside fault before after b c is
 
 -- faults that a call has not
 other_fault : {A : Type 0} (fault : MigrationFault) → IsDamagedOrDevice fault → (fault ≡ NotEmpty) ⊎ (fault ≡ OutOfMemory) → A
@@ -38,9 +38,9 @@ other_fault fault (inl a) (inr b) = absurd (cc (a, b))
 other_fault fault (inr a) (inl b) = absurd (cc (a, b))
 other_fault fault (inr a) (inr b) = absurd (cc (a, b))
 
-pub is_unread : {T A : Type 0} (result : Result T MigrationFault) → IfErr result IsDamagedOrDevice → IfErr result (λ e. (e ≡ NotEmpty) ⊎ (e ≡ OutOfMemory) → A)
-is_unread (Ok value) is = is
-is_unread (Err fault) is = other_fault fault is
+pub is_unread : {T : Type 0} (A : Type 0) (result : Result T MigrationFault) → IfErr result IsDamagedOrDevice → IfErr result (λ e. (e ≡ NotEmpty) ⊎ (e ≡ OutOfMemory) → A)
+is_unread A (Ok value) is = is
+is_unread A (Err fault) is = other_fault fault is
 
 pub was_empty : {T A : Type 0} (result : Result T MigrationFault) → IfErr result IsDamagedOrDevice → IsErrOf result NotEmpty → A
 was_empty (Ok value) is told = absurd (cc told)

@@ -1,7 +1,6 @@
 -- A migration: what it makes, and what it leaves where it is refused.
-use Rattle.std.specs.Prelude.{◌≡◌, ◌≢◌, ◌⊎◌, ◌+◌, ◌-◌, ℕ, IsTrue, List, [], ◌∷◌, ◌++◌, length, Result, Ok, Err}
+use Rattle.std.specs.Prelude.{◌≡◌, ◌≢◌, ◌⊎◌, ◌+◌, ◌-◌, ℕ, IsTrue, List, [], length, Result, Ok, Err}
 use Rattle.hg_disk.specs.Calls.{CallsAtMost}
-use Rattle.hg_disk.specs.Moments.{AddsNoImage}
 use Rattle.hg_disk.specs.declared.disk.Disk as disk
 use Rattle.hg_gate.specs.Batches.{header}
 use Rattle.hg_gate.specs.Scan.{BeginsWith}
@@ -9,12 +8,11 @@ use Rattle.hg_images.specs.Images.{Image}
 use Rattle.hg_images.specs.Stores.{IsLeft}
 use Rattle.hg_store.specs.Images.{states_of}
 use Rattle.hg_store.specs.declared.devices.Devices.{Devices}
-use Rattle.hg_migration.specs.Building.{AreBuilt, BuildsInTurn}
 use Rattle.hg_migration.specs.Copying.{pieces_in}
 use Rattle.hg_migration.specs.Fault.{after_fault}
 use Rattle.hg_migration.specs.Laws.{HasFormerContents}
 use Rattle.hg_migration.specs.declared.fault.MigrationFault.{MigrationFault}
-use Rattle.hg_migration.specs.declared.fault.MigrationFault.TheVariants.{Damaged, DeviceFault, NotEmpty}
+use Rattle.hg_migration.specs.declared.fault.MigrationFault.TheVariants.{Damaged, DeviceFault}
 use Rattle.hg_migration.specs.declared.migrating.Migrated.{Migrated}
 use Rattle.hg_migration.specs.declared.migrating.NotMigrated.{NotMigrated}
 use Rattle.hg_migration.specs.declared.migrating.OldDevices.{OldDevices}

@@ -1,5 +1,5 @@
-use Rattle.std.proofs.Common.{◌≡◌, ◌∙◌, ◌∷◌, [], ◌++◌, ℕ, List, ap, subst, arith}
-use Rattle.hg_disk.specs.State.{DiskState, after_sync, after_write, overwritten, settled}
+use Rattle.std.proofs.Common.{◌≡◌, ◌∙◌, ◌∷◌, ◌++◌, ℕ, List, ap, arith}
+use Rattle.hg_disk.specs.State.{DiskState, overwritten, settled}
 use Rattle.hg_disk.proofs.Moments.{joined}
 use Rattle.hg_gate.specs.Batches.{IsClosed, closed_gate}
 use Rattle.hg_gate.proofs.Basing.{put}

@@ -1,4 +1,4 @@
-use Rattle.std.proofs.Common.{◌≡◌, ◌∙◌, ap, length, arith, List, ℕ}
+use Rattle.std.proofs.Common.{◌∙◌, ap, length, arith}
 use Rattle.hg_disk.proofs.Moments.{read_leaves}
 use Rattle.hg_disk.specs.State.{DiskState}
 use Rattle.hg_gate.proofs.Gates.{on_ok}

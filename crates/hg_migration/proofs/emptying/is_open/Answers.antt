@@ -1,4 +1,4 @@
-use Rattle.std.proofs.Common.{◌≡◌, length, ap, arith}
+use Rattle.std.proofs.Common.{length, ap, arith}
 use Rattle.hg_disk.proofs.Moments.{read_leaves}
 use Rattle.hg_migration.proofs.emptying.is_open.Goals as goal
 

@@ -1,4 +1,4 @@
-use Rattle.std.proofs.Common.{inl, inr, refl, subst, List, ℕ}
+use Rattle.std.proofs.Common.{inl, refl, subst, List, ℕ}
 use Rattle.hg_disk.proofs.Staying.{then}
 use Rattle.hg_migration.specs.Building.{BuildsInTurn}
 use Rattle.hg_migration.proofs.Built.{stops_before}
@@ -12,24 +12,18 @@ pub returns-in-Err-clause-begins : goal.returns-in-Err-clause-begins
 returns-in-Err-clause-begins g c honest = inl (refl, refl)
 
 pub returns-in-Err-clause-device : goal.returns-in-Err-clause-device
-returns-in-Err-clause-device g c = failed_beside {T = Unit {0}} c.in-Err.fault _ _ _ _ c.in-Err.ensures.device
+returns-in-Err-clause-device g c = failed_beside (Unit {0}) c.in-Err.fault _ _ _ _ c.in-Err.ensures.device
 
-pub returns-in_err-build-clause-begins : goal.returns-in_err-build-clause-begins
-returns-in_err-build-clause-begins g c honest = inr (c.in-Ok.ensures.begins honest)
+pub returns-in_err-build-in-Ok-clause-old_moments : goal.returns-in_err-build-in-Ok-clause-old_moments
+returns-in_err-build-in-Ok-clause-old_moments g c = then g.D.Disk c.args.journal.now c.prepare.new.journal c.build.new.journal c.prepare.ensures.any_moment c.build.ensures.read.any_moment
 
-pub returns-in-Ok-clause-begins : goal.returns-in-Ok-clause-begins
-returns-in-Ok-clause-begins g c honest = inr (c.in-Ok.ensures.begins honest)
+pub returns-in_ok-build-in-Ok-clause-old_moments : goal.returns-in_ok-build-in-Ok-clause-old_moments
+returns-in_ok-build-in-Ok-clause-old_moments g c = then g.D.Disk c.args.journal.now c.prepare.new.journal c.build.new.journal c.prepare.ensures.any_moment c.build.ensures.read.any_moment
 
-pub returns-in_err-build-clause-old_moments : goal.returns-in_err-build-clause-old_moments
-returns-in_err-build-clause-old_moments g c = then g.D.Disk c.args.journal.now c.prepare.new.journal c.build.new.journal c.prepare.ensures.any_moment c.build.ensures.read.any_moment
-
-pub returns-in-Ok-clause-old_moments : goal.returns-in-Ok-clause-old_moments
-returns-in-Ok-clause-old_moments g c = then g.D.Disk c.args.journal.now c.prepare.new.journal c.build.new.journal c.prepare.ensures.any_moment c.build.ensures.read.any_moment
-
-pub returns-in_err-build-clause-any_moment : goal.returns-in_err-build-clause-any_moment
-returns-in_err-build-clause-any_moment g c =
+pub returns-in_err-build-in-Ok-clause-any_moment : goal.returns-in_err-build-in-Ok-clause-any_moment
+returns-in_err-build-in-Ok-clause-any_moment g c =
     subst (λ (old : List ℕ). BuildsInTurn g.D.Disk old c.args.journal0.now c.build.new.journal0 c.args.journal1.now c.build.new.journal1) c.in-Ok.ensures.bytes c.build.ensures.any_moment
 
-pub returns-in-Ok-clause-any_moment : goal.returns-in-Ok-clause-any_moment
-returns-in-Ok-clause-any_moment g c =
+pub returns-in_ok-build-in-Ok-clause-any_moment : goal.returns-in_ok-build-in-Ok-clause-any_moment
+returns-in_ok-build-in-Ok-clause-any_moment g c =
     subst (λ (old : List ℕ). BuildsInTurn g.D.Disk old c.args.journal0.now c.build.new.journal0 c.args.journal1.now c.build.new.journal1) c.in-Ok.ensures.bytes c.build.ensures.any_moment

@@ -9,4 +9,4 @@ pub returns-clause-not_empty : goal.returns-clause-not_empty
 returns-clause-not_empty g c told = was_empty c.copy_journal.result c.copy_journal.ensures.fault told
 
 pub returns-clause-unread : goal.returns-clause-unread
-returns-clause-unread g c = is_unread c.copy_journal.result c.copy_journal.ensures.fault
+returns-clause-unread g c = is_unread _ c.copy_journal.result c.copy_journal.ensures.fault
