@@ -5,7 +5,7 @@ ghost use Rattle.hg_disk.specs.Calls.{CallsAtMost};
 ghost use Rattle.hg_gate.specs.Gated.{LeavesClosed};
 ghost use Rattle.hg_gate.specs.Reading.{WasRead};
 ghost use Rattle.hg_gate.specs.declared.reader.TheConstants.{PIECE_LEN as PIECE};
-ghost use Rattle.hg_migration.specs.Building.{AreBuilt, BuildsInTurn, FillsGated};
+ghost use Rattle.hg_migration.specs.Building.{AreBuilt, FillsGated, InTurn, IsGated, MakesGate};
 ghost use Rattle.hg_migration.specs.Copying.{pieces_in};
 
 use crate::copying::append_rest;
@@ -17,6 +17,18 @@ const FRONT: [u8; 16] = *b"HGJRNL3\n\0\0\0\0\0\0\0\0";
 
 // Where the batches of an old journal begin: behind its header.
 const OLD_BATCHES_AT: u64 = 8;
+
+// Makes a closed gate in an empty file, durably.
+fn make_gate<D: Disk>(file: &mut D) -> Result<(), DiskFault>
+    requires { (D.state file.old).contents ≡ [] }
+    ensures gated { OnOk result (IsGated ⟦<D as Disk>⟧ file.new) }
+    ensures any_moment { MakesGate ⟦<D as Disk>⟧ file.old file.new }
+    ensures calls { CallsAtMost ⟦<D as Disk>⟧ 2 file.old file.new }
+    ensures failures { D.failures file.new ≡ counted result (D.failures file.old) }
+{
+    file.write_at(0, &[CLOSED])?;
+    file.sync()
+}
 
 // Puts the header, the base 0 and the bytes behind the header of the old journal behind the gate of a file, durably.
 fn fill<D: Disk>(journal: &mut D, file: &mut D, buffer: &mut [u8]) -> Result<(), DiskFault>
@@ -46,14 +58,14 @@ pub(crate) fn build<D: Disk>(
     requires second { (D.state journal1.old).contents ≡ [] }
     requires buffer { length buffer.old ≡ PIECE }
     ensures built { OnOk result (AreBuilt ⟦<D as Disk>⟧ (D.state journal.old).contents journal0.new journal1.new) }
-    ensures any_moment { BuildsInTurn ⟦<D as Disk>⟧ (D.state journal.old).contents journal0.old journal0.new journal1.old journal1.new }
+    ensures any_moment { InTurn ⟦<D as Disk>⟧ (D.state journal.old).contents journal0.old journal0.new journal1.old journal1.new }
     ensures read { WasRead ⟦<D as Disk>⟧ (pieces_in (length (D.state journal.old).contents - 8)) journal.old journal.new }
     ensures calls0 { CallsAtMost ⟦<D as Disk>⟧ (pieces_in (length (D.state journal.old).contents - 8) + 6) journal0.old journal0.new }
     ensures calls1 { CallsAtMost ⟦<D as Disk>⟧ 2 journal1.old journal1.new }
     ensures failures { D.failures journal.new + D.failures journal0.new + D.failures journal1.new ≡ counted result (D.failures journal.old + D.failures journal0.old + D.failures journal1.old) }
 {
-    write_through(journal0, 0, &[CLOSED])?;
+    make_gate(journal0)?;
     fill(journal, journal0, buffer)?;
-    write_through(journal1, 0, &[CLOSED])?;
+    make_gate(journal1)?;
     write_through(journal0, 0, &[OPEN])
 }

@@ -4,7 +4,7 @@ ghost use Rattle.hg_disk.specs.Calls.{CallsAtMost};
 ghost use Rattle.hg_disk.specs.Moments.{AddsNoImage};
 ghost use Rattle.hg_gate.specs.Reading.{WasRead};
 ghost use Rattle.hg_gate.specs.declared.reader.TheConstants.{PIECE_LEN as PIECE};
-ghost use Rattle.hg_migration.specs.Building.{AreBuilt, BuildsInTurn};
+ghost use Rattle.hg_migration.specs.Building.{AreBuilt, InTurn};
 ghost use Rattle.hg_migration.specs.Fault.{failures_after};
 ghost use Rattle.hg_migration.specs.Migrating.{AreEmpty, AreUncalled, FewCalls, HandsBack, HasHeader, HasSlotsAndRoots, HaveFormerContents, IsDamagedOrDevice, KeepsOldBytes, ReadsSameOrFault, WritesBehindHeader, failures_in, failures_of, journal0_in, journal1_in, journal_in};
 
@@ -115,7 +115,7 @@ fn copy_journal<D: Disk>(
     ensures made { OnOk result (AreBuilt ⟦<D as Disk>⟧ (D.state journal.old).contents journal0.new journal1.new) }
     ensures bytes { ReadsSameOrFault ⟦<D as Disk>⟧ journal.old journal.new result }
     ensures old_moments { AddsNoImage ⟦<D as Disk>⟧ journal.old journal.new }
-    ensures any_moment { BuildsInTurn ⟦<D as Disk>⟧ (D.state journal.old).contents journal0.old journal0.new journal1.old journal1.new }
+    ensures any_moment { InTurn ⟦<D as Disk>⟧ (D.state journal.old).contents journal0.old journal0.new journal1.old journal1.new }
     ensures calls { FewCalls ⟦<D as Disk>⟧ journal.old journal0.old journal1.old journal.new journal0.new journal1.new }
     ensures device { failures_of ⟦<D as Disk>⟧ journal.new journal0.new journal1.new ≡ failures_after result (failures_of ⟦<D as Disk>⟧ journal.old journal0.old journal1.old) }
 {
@@ -142,7 +142,7 @@ fn make_journals<D: Disk>(
     ensures made { OnOk result (AreBuilt ⟦<D as Disk>⟧ (D.state journal.old).contents journal0.new journal1.new) }
     ensures bytes { ReadsSameOrFault ⟦<D as Disk>⟧ journal.old journal.new result }
     ensures old_moments { AddsNoImage ⟦<D as Disk>⟧ journal.old journal.new }
-    ensures any_moment { BuildsInTurn ⟦<D as Disk>⟧ (D.state journal.old).contents journal0.old journal0.new journal1.old journal1.new }
+    ensures any_moment { InTurn ⟦<D as Disk>⟧ (D.state journal.old).contents journal0.old journal0.new journal1.old journal1.new }
     ensures calls { FewCalls ⟦<D as Disk>⟧ journal.old journal0.old journal1.old journal.new journal0.new journal1.new }
     ensures device { failures_of ⟦<D as Disk>⟧ journal.new journal0.new journal1.new ≡ failures_after result (failures_of ⟦<D as Disk>⟧ journal.old journal0.old journal1.old) }
 {
@@ -191,7 +191,7 @@ pub fn migrate<D: Disk>(
     ensures old_bytes { KeepsOldBytes ⟦<D as Disk>⟧ old result }
     ensures others { HasSlotsAndRoots old result }
 
-    ensures any_moment { BuildsInTurn ⟦<D as Disk>⟧ (D.state old.journal).contents journal0 (journal0_in result) journal1 (journal1_in result) }
+    ensures any_moment { InTurn ⟦<D as Disk>⟧ (D.state old.journal).contents journal0 (journal0_in result) journal1 (journal1_in result) }
     ensures calls { FewCalls ⟦<D as Disk>⟧ old.journal journal0 journal1 (journal_in result) (journal0_in result) (journal1_in result) }
     ensures device { failures_of ⟦<D as Disk>⟧ (journal_in result) (journal0_in result) (journal1_in result) ≡ failures_in result (failures_of ⟦<D as Disk>⟧ old.journal journal0 journal1) }
 {

@@ -1,12 +1,11 @@
 use Rattle.std.proofs.Common.{inl, refl, subst, List, ℕ}
 use Rattle.hg_disk.proofs.Staying.{then}
-use Rattle.hg_migration.specs.Building.{BuildsInTurn}
-use Rattle.hg_migration.proofs.Built.{stops_before}
+use Rattle.hg_migration.specs.Building.{InTurn}
 use Rattle.hg_migration.proofs.Whole.{failed_beside}
 use Rattle.hg_migration.proofs.migrating.copy_journal.Goals as goal
 
 pub returns-in-Err-clause-any_moment : goal.returns-in-Err-clause-any_moment
-returns-in-Err-clause-any_moment g c none0 none1 = stops_before g.D.Disk (g.D.Disk.state c.args.journal.now).contents c.args.journal0.now c.args.journal1.now none0 none1
+returns-in-Err-clause-any_moment g c = inl (refl, refl)
 
 pub returns-in-Err-clause-begins : goal.returns-in-Err-clause-begins
 returns-in-Err-clause-begins g c honest = inl (refl, refl)
@@ -22,8 +21,8 @@ returns-in_ok-build-in-Ok-clause-old_moments g c = then g.D.Disk c.args.journal.
 
 pub returns-in_err-build-in-Ok-clause-any_moment : goal.returns-in_err-build-in-Ok-clause-any_moment
 returns-in_err-build-in-Ok-clause-any_moment g c =
-    subst (λ (old : List ℕ). BuildsInTurn g.D.Disk old c.args.journal0.now c.build.new.journal0 c.args.journal1.now c.build.new.journal1) c.in-Ok.ensures.bytes c.build.ensures.any_moment
+    subst (λ (old : List ℕ). InTurn g.D.Disk old c.args.journal0.now c.build.new.journal0 c.args.journal1.now c.build.new.journal1) c.in-Ok.ensures.bytes c.build.ensures.any_moment
 
 pub returns-in_ok-build-in-Ok-clause-any_moment : goal.returns-in_ok-build-in-Ok-clause-any_moment
 returns-in_ok-build-in-Ok-clause-any_moment g c =
-    subst (λ (old : List ℕ). BuildsInTurn g.D.Disk old c.args.journal0.now c.build.new.journal0 c.args.journal1.now c.build.new.journal1) c.in-Ok.ensures.bytes c.build.ensures.any_moment
+    subst (λ (old : List ℕ). InTurn g.D.Disk old c.args.journal0.now c.build.new.journal0 c.args.journal1.now c.build.new.journal1) c.in-Ok.ensures.bytes c.build.ensures.any_moment
