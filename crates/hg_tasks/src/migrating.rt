@@ -35,7 +35,10 @@ fn refusal_of(fault: MigrationFault) -> Refusal
 }
 
 /// Migrates a store, where neither new file is open. What an earlier try left in them is dropped first.
-fn migrated<D: Disk>(alloc: Global, former: FormerStore<D>) -> Result<Migrated<D>, MigrationFault>
+fn migrated<D: Disk + Drop>(
+    alloc: Global,
+    former: FormerStore<D>,
+) -> Result<Migrated<D>, MigrationFault>
     ensures made { IfOk result (WasMigrated ⟦<D as Disk>⟧ former) }
     ensures not_empty { IsTrue D.is_honest → IsErrOf result MigrationFault.NotEmpty → EitherIsOpen ⟦<D as Disk>⟧ former.journal0 former.journal1 }
 {
