@@ -1,5 +1,5 @@
 -- A store of the former form that is given two journals.
-use Rattle.std.specs.Prelude.{◌≡◌, ◌⊎◌, ℕ, IsTrue, [], ◌∷◌, ◌++◌, Ok, codes}
+use Rattle.std.specs.Prelude.{◌≡◌, ◌⊎◌, ℕ, IsTrue, List, [], ◌∷◌, ◌++◌, Ok, codes}
 use Rattle.hg_model.specs.declared.verdict.Refusal.{Refusal}
 use Rattle.hg_model.specs.declared.verdict.Refusal.TheVariants as refusal
 use Rattle.hg_disk.specs.declared.disk.Disk as disk
@@ -29,12 +29,16 @@ module _ {D : Type 0} (g : disk.Ghosts D) where
     pub others : HasSlotsAndRoots former.old (Ok made)
     pub contents : IsTrue g.is_honest → HaveFormerContents g (g.state former.old.journal).contents made.devices
 
+-- A text was printed and flushed, with this status; or a fault was told, with status 3.
+abbrev pub Answers : {W V : Type 0} → List ℕ → ℕ → Outputs W V → Outputs W V → ℕ → Type 0
+Answers text wanted before after status =
+    ((status ≡ wanted) × Took before.output.calls after.output.calls text × (after.faults ≡ before.faults))
+    ⊎ ((status ≡ 3) × ((r : Refusal) × IsTold before.faults.calls after.faults.calls r))
+
 module _ {D W V : Type 0} (g : disk.Ghosts D) where
   -- It was made, and then `migrated` was printed; or a new journal is open, and `not empty` was printed; or a fault was told.
   abbrev pub MigratesAndTells : FormerStore D → Outputs W V → Outputs W V → ℕ → Type 0
   MigratesAndTells former before after status =
-      ((status ≡ 0) × ((made : Migrated D) × WasMigrated g former made)
-      × Took before.output.calls after.output.calls (codes "migrated" ++ 10 ∷ []) × (after.faults ≡ before.faults))
-      ⊎ (((status ≡ 2) × (IsTrue g.is_honest → EitherIsOpen g former.journal0 former.journal1)
-      × Took before.output.calls after.output.calls (codes "not empty" ++ 10 ∷ []) × (after.faults ≡ before.faults))
+      (((made : Migrated D) × WasMigrated g former made) × Answers (codes "migrated" ++ 10 ∷ []) 0 before after status)
+      ⊎ (((IsTrue g.is_honest → EitherIsOpen g former.journal0 former.journal1) × Answers (codes "not empty" ++ 10 ∷ []) 2 before after status)
       ⊎ ((status ≡ 3) × ((r : Refusal) × IsTold before.faults.calls after.faults.calls r)))

@@ -1,7 +1,7 @@
 //! A store of the former form, with one journal, is given two.
 ghost use Rattle.std.specs.Prelude.{◌≡◌, IfErr, IfOk, IsErrOf, IsTrue};
 ghost use Rattle.hg_migration.specs.Emptying.{EitherIsOpen};
-ghost use Rattle.hg_tasks.specs.Migrating.{MigratesAndTells, WasMigrated, refusal_of_migration};
+ghost use Rattle.hg_tasks.specs.Migrating.{Answers, MigratesAndTells, WasMigrated, refusal_of_migration};
 
 use hg_disk::Disk;
 use hg_migration::{Migrated, MigrationFault, OldDevices, empty_files, migrate};
@@ -56,6 +56,16 @@ fn migrated<D: Disk + Drop>(
     }
 }
 
+/// Prints a text at once, and answers this status; or tells why it could not, with status 3.
+fn print_answer<W: Write, V: Write>(text: &[u8], status: u8, outputs: &mut Outputs<W, V>) -> u8
+    ensures { Answers text.now status outputs.old outputs.new result }
+{
+    match print_now(text, &mut outputs.output) {
+        Ok(()) => status,
+        Err(refusal) => end_by_fault(refusal, &mut outputs.faults),
+    }
+}
+
 /// Migrates a store and prints `migrated`, with status 0, when the new journals are durable; or `not empty`, with status 2, where one of
 /// them is open, and nothing was changed. With status 3 a fault was told.
 pub fn migrate_and_print<D: Disk + Drop, W: Write, V: Write>(
@@ -65,15 +75,9 @@ pub fn migrate_and_print<D: Disk + Drop, W: Write, V: Write>(
 ) -> u8
     ensures { MigratesAndTells ⟦<D as Disk>⟧ former outputs.old outputs.new result }
 {
-    let (status, printed) = match migrated(alloc, former) {
-        Ok(_) => (0, print_now(b"migrated\n", &mut outputs.output)),
-        Err(MigrationFault::NotEmpty) => {
-            (NOT_EMPTY, print_now(b"not empty\n", &mut outputs.output))
-        }
-        Err(fault) => return end_by_fault(refusal_of(fault), &mut outputs.faults),
-    };
-    match printed {
-        Ok(()) => status,
-        Err(refusal) => end_by_fault(refusal, &mut outputs.faults),
+    match migrated(alloc, former) {
+        Ok(_) => print_answer(b"migrated\n", 0, outputs),
+        Err(MigrationFault::NotEmpty) => print_answer(b"not empty\n", NOT_EMPTY, outputs),
+        Err(fault) => end_by_fault(refusal_of(fault), &mut outputs.faults),
     }
 }
