@@ -25,7 +25,6 @@ module _ {D : Type 0} (g : disk.Ghosts D) where
   abbrev pub IsFilled : (old : List ℕ) → D → Type 0
   IsFilled old file = (copied : List ℕ) × IsCopy old copied × (g.state file ≡ settled (closed_gate ∷ (zero_front ++ copied)))
 
-
   -- The first file is open with the base 0 and a copy of the old journal, the second one is spare, both durable, and neither
   -- has anything else.
   pub record AreBuilt (old : List ℕ) (journal0 journal1 : D) : Type 0 where
