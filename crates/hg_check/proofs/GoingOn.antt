@@ -17,7 +17,6 @@ use Rattle.hg_check.specs.Checking.{Answered, IsRead, LeadsTo, next_named}
 use Rattle.hg_check.specs.declared.explain.form.Form.{Form}
 use Rattle.hg_check.specs.Life.{accesses, concerns, differs, life, look_of, more_text, told_of}
 use Rattle.hg_check.specs.LifeLaws.{GoesOn}
-use Rattle.hg_check.proofs.Told.{life_none}
 
 not_bad : (line : ℕ) → Ended ≡ Bad line → ⊥
 not_bad line h = absurd (cc)

@@ -3,7 +3,7 @@ use Rattle.std.proofs.Common.{◌≡◌, ℕ, ◌-◌, List, [], ◌++◌, refl,
 use Rattle.std.proofs.lemmas.List.{append-nil, append_assoc}
 use Rattle.hg_model.specs.Contents.{Content}
 use Rattle.hg_model.specs.Change.{empty_content}
-use Rattle.hg_sets.specs.Interning.{Table, first_table}
+use Rattle.hg_sets.specs.Interning.{Table}
 use Rattle.hg_detect.specs.declared.detector.Detector.{Detector}
 use Rattle.hg_cells.specs.declared.paged.PagedWords.{PagedWords}
 use Rattle.hg_detect.specs.Memory.{content_of}
@@ -27,6 +27,13 @@ use Rattle.hg_check.specs.Explaining.{Explains, TellsFrom, WroteFrontFrom, Wrote
 -- all is held and nothing written
 pub due_held : (old : List WriteCall) (held : List ℕ) → IsDue old old held [] held
 due_held old held = record { written = []; appended = appends_none old; whole = append-nil held }
+
+pub one_held : (old new text : List ℕ) → old ≡ [] → new ≡ old ++ text → new ≡ text
+one_held old new text none p = p ∙ ap (λ xs. xs ++ text) none
+
+-- two texts, one behind the other
+pub two_held : (old mid new first second : List ℕ) → old ≡ [] → mid ≡ old ++ first → new ≡ mid ++ second → new ≡ first ++ second
+two_held old mid new first second none p q = q ∙ ap (λ xs. xs ++ second) (p ∙ ap (λ xs. xs ++ first) none)
 
 -- ---- the text of an input, from a table and a content on
 
