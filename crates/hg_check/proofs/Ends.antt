@@ -18,7 +18,7 @@ use Rattle.hg_reading.proofs.Inputs.{begins_with}
 use Rattle.hg_reading.specs.declared.ending.Ending.{Ending}
 use Rattle.hg_reading.specs.declared.ending.Ending.TheVariants.{Ended}
 use Rattle.hg_check.specs.Checking.{LeadsTo}
-use Rattle.hg_check.specs.Printing.{EndsBy, ReadsTo}
+use Rattle.hg_check.specs.Printing.{EndsByFrom, ReadsFrom, ReadsTo}
 use Rattle.hg_check.specs.Running.{HasFew, HasReports, IsStart, LeadsFrom, ReportsGrow, Steps, StepsTaken}
 use Rattle.hg_reading.specs.Endings.{ending_of}
 use Rattle.hg_check.proofs.Steps.{leads_grow}
@@ -33,15 +33,20 @@ pub from_fresh : (d : Detector PagedWords) (lines : List Reading) (last : Conten
 from_fresh d lines last end fresh h =
     subst (λ (t : Table). LeadsTo lines t (content_of d) last end) (sym fresh.sets) (subst (λ c. LeadsTo lines (first_table 262144) c last end) (sym fresh.content) h)
 
+-- what holds of its table and content holds of the first ones
+pub at_start : (d : Detector PagedWords) (P : Table → Content → Type 0) → IsStart d → P d.sets (content_of d) → P (first_table 262144) empty_content
+at_start d P fresh h = subst (λ c. P (first_table 262144) c) fresh.content (subst (λ (t : Table). P t (content_of d)) fresh.sets h)
+
 fresh_few : (d : Detector PagedWords) → IsStart d → HasFew (content_of d)
 fresh_few d fresh = subst HasFew (sym fresh.content) (omega arith)
 
 -- ---- to an end
 
-pub passed_to : (d e : Detector PagedWords) (lines : List Reading) → IsStart d → Steps d lines (Ok None) e → LeadsTo lines (first_table 262144) empty_content (content_of e) Ended
-passed_to d e lines fresh h =
-    checks_from d lines (content_of e) Ended fresh
-    (subst (λ xs. LeadsFrom d xs (content_of e) Ended) (append-nil lines) (h.leads refl [] (content_of e) Ended (refl, refl)))
+pub passed_on : (d e : Detector PagedWords) (lines : List Reading) → Steps d lines (Ok None) e → LeadsFrom d lines (content_of e) Ended
+passed_on d e lines h = subst (λ xs. LeadsFrom d xs (content_of e) Ended) (append-nil lines) (h.leads refl [] (content_of e) Ended (refl, refl))
+
+passed_to : (d e : Detector PagedWords) (lines : List Reading) → IsStart d → Steps d lines (Ok None) e → LeadsTo lines (first_table 262144) empty_content (content_of e) Ended
+passed_to d e lines fresh h = checks_from d lines (content_of e) Ended fresh (passed_on d e lines h)
 
 ended_to : (d e : Detector PagedWords) (lines rest : List Reading) (end : Ending) → IsStart d → Steps d lines (Ok (Some end)) e
     → LeadsTo (lines ++ rest) (first_table 262144) empty_content (content_of e) end
@@ -55,27 +60,27 @@ text_leads d e input lines rest None fresh is whole h =
 text_leads d e input lines rest (Some end) fresh is whole h =
     subst (λ xs. LeadsTo xs (first_table 262144) empty_content (content_of e) end) (sym is) (ended_to d e lines rest end fresh h)
 
-pub ends_by : (d e : Detector PagedWords) (reads : List ReadCall) (lines : List Reading) (stop : Option Ending) → IsStart d → Steps d lines (Ok stop) e
-    → AreDue StepsTaken reads lines (Ok stop) → EndsBy reads (content_of e) (ending_of stop)
-ends_by d e reads lines None fresh h due =
+pub ends_from : (d e : Detector PagedWords) (reads : List ReadCall) (lines : List Reading) (stop : Option Ending) → Steps d lines (Ok stop) e
+    → AreDue StepsTaken reads lines (Ok stop) → EndsByFrom d.sets (content_of d) reads (content_of e) (ending_of stop)
+ends_from d e reads lines None h due =
     ⊎_elim
-    (λ met. inl (met.0, met.1, subst (λ xs. LeadsTo xs (first_table 262144) empty_content (content_of e) Ended) met.2 (passed_to d e lines fresh h)))
+    (λ met. inl (met.0, met.1, subst (λ xs. LeadsFrom d xs (content_of e) Ended) met.2 (passed_on d e lines h)))
     (λ stopped. absurd (stopped.0 refl))
     due
-ends_by d e reads lines (Some end) fresh h due =
+ends_from d e reads lines (Some end) h due =
     ⊎_elim
     (λ met. inl (
       met.0,
       met.1,
-      subst (λ xs. LeadsTo xs (first_table 262144) empty_content (content_of e) end) (append-nil lines ∙ met.2) (ended_to d e lines [] end fresh h),
+      subst (λ xs. LeadsFrom d xs (content_of e) end) (append-nil lines ∙ met.2) (h.ends end refl []),
     ))
     (λ stopped. inr (λ more. let rest = stopped.1 more in
-    subst (λ xs. LeadsTo xs (first_table 262144) empty_content (content_of e) end) (sym rest.1) (ended_to d e lines rest.0 end fresh h)))
+    subst (λ xs. LeadsFrom d xs (content_of e) end) (sym rest.1) (h.ends end refl rest.0)))
     due
 
-pub reads_to : (first now : List ReadCall) (d e : Detector PagedWords) (o p : List WriteCall) (stop : Option Ending) → IsStart d → WasRead StepsTaken AlwaysSettled first now d o (Ok stop) e p
-    → ReadsTo first now (content_of e) (ending_of stop)
-reads_to first now d e o p stop fresh w = record {
+reads_from : (first now : List ReadCall) (d e : Detector PagedWords) (o p : List WriteCall) (stop : Option Ending) → WasRead StepsTaken AlwaysSettled first now d o (Ok stop) e p
+    → ReadsFrom d.sets (content_of d) first now (content_of e) (ending_of stop)
+reads_from first now d e o p stop w = record {
   later = w.later;
   since = w.since;
   whole = w.intact;
@@ -85,10 +90,15 @@ reads_to first now d e o p stop fresh w = record {
     newest = w.needed.newest;
     underway = w.needed.underway;
     content = content_of w.needed.now;
-    passed = passed_to d w.needed.now (ended_readings (given w.needed.earlier)) fresh w.needed.passed;
+    passed = passed_on d w.needed.now (ended_readings (given w.needed.earlier)) w.needed.passed;
   };
-  leads = ends_by d e w.later w.lines stop fresh w.steps w.due;
+  leads = ends_from d e w.later w.lines stop w.steps w.due;
 }
+
+pub reads_to : (first now : List ReadCall) (d e : Detector PagedWords) (o p : List WriteCall) (stop : Option Ending) → IsStart d → WasRead StepsTaken AlwaysSettled first now d o (Ok stop) e p
+    → ReadsTo first now (content_of e) (ending_of stop)
+reads_to first now d e o p stop fresh w =
+    at_start d (λ t c. ReadsFrom t c first now (content_of e) (ending_of stop)) fresh (reads_from first now d e o p stop w)
 
 -- ---- the reports so far begin those of whatever the whole input may be
 

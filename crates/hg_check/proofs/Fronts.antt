@@ -8,11 +8,11 @@ use Rattle.hg_streams.specs.declared.call.WriteCall.{WriteCall}
 use Rattle.hg_streams.specs.Calls.{ends_met, given, MayBe}
 use Rattle.hg_model.specs.Change.{empty_content}
 use Rattle.hg_model.specs.Contents.{Content}
-use Rattle.hg_sets.specs.Interning.{first_table}
+use Rattle.hg_sets.specs.Interning.{Table, first_table}
 use Rattle.hg_wire.specs.Streams.{readings}
 use Rattle.hg_reading.specs.declared.ending.Ending.{Ending}
-use Rattle.hg_check.specs.Checking.{ChecksTo}
-use Rattle.hg_check.specs.Printing.{EndsBy, ReadsTo, WroteFront, check_text, graph_text, last_line}
+use Rattle.hg_check.specs.Checking.{ChecksFrom, ChecksTo}
+use Rattle.hg_check.specs.Printing.{EndsBy, EndsByFrom, ReadsTo, WroteFront, check_text, graph_text, last_line}
 use Rattle.hg_streams.specs.Texts.{line_text}
 use Rattle.hg_streams.specs.Written.{TookFront}
 use Rattle.hg_check.specs.Running.{live_text, HasReports}
@@ -57,14 +57,18 @@ checks_to_one input c d first second h k = leads_to_one (readings input) (first_
 met_some : (reads earlier : List ReadCall) → reads ≡ ReadCall.Gave [] ∷ earlier → 0 < ends_met reads
 met_some reads earlier is = subst (λ t. 0 < ends_met t) (sym is) (omega arith)
 
-pub settled : (reads : List ReadCall) (c d : Content) (end stop : Ending) (input : List ℕ) → EndsBy reads c end → MayBe reads input → ChecksTo input d stop → (c ≡ d) × (end ≡ stop)
-settled reads c d end stop input ends m l =
+pub settled_from : (table : Table) (start : Content) (reads : List ReadCall) (c d : Content) (end stop : Ending) (input : List ℕ)
+    → EndsByFrom table start reads c end → MayBe reads input → ChecksFrom table start input d stop → (c ≡ d) × (end ≡ stop)
+settled_from table start reads c d end stop input ends m l =
     ⊎_elim
     (λ met. let none : m.more ≡ [] = m.over (met_some reads met.0 met.1) in
     let is : input ≡ given met.0 = m.joined ∙ (ap (λ t. given reads ++ t) none ∙ (append-nil (given reads) ∙ (ap given met.1 ∙ append-nil (given met.0)))) in
-    checks_to_one (given met.0) c d end stop met.2 (subst (λ t. ChecksTo t d stop) is l))
-    (λ stopped. checks_to_one (given reads ++ m.more) c d end stop (stopped m.more) (subst (λ t. ChecksTo t d stop) m.joined l))
+    leads_to_one (readings (given met.0)) table start c d end stop met.2 (subst (λ t. ChecksFrom table start t d stop) is l))
+    (λ stopped. leads_to_one (readings (given reads ++ m.more)) table start c d end stop (stopped m.more) (subst (λ t. ChecksFrom table start t d stop) m.joined l))
     ends
+
+settled : (reads : List ReadCall) (c d : Content) (end stop : Ending) (input : List ℕ) → EndsBy reads c end → MayBe reads input → ChecksTo input d stop → (c ≡ d) × (end ≡ stop)
+settled reads c d end stop input ends m l = settled_from (first_table 262144) empty_content reads c d end stop input ends m l
 
 -- what the reads led to is settled, and a front of its text was written
 pub wrote_settled : (text : Content → Ending → List ℕ) (reads reads_new : List ReadCall) (first now : List WriteCall) (c : Content) (end : Ending) → ReadsTo reads reads_new c end → TookFront first now (text c end)

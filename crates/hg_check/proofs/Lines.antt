@@ -9,7 +9,10 @@ use Rattle.hg_detect.specs.Shown.{report_of}
 use Rattle.hg_wire.specs.Reports.{sixteen_digits}
 use Rattle.hg_streams.specs.Texts.{line_text}
 use Rattle.hg_check.specs.Explaining.{word_line}
-use Rattle.hg_check.specs.Life.{more_text, race_text}
+use Rattle.hg_check.specs.Behind.{gone_line, gone_text}
+use Rattle.hg_check.specs.Life.{more_text, race_text, state_text}
+use Rattle.hg_model.specs.Contents.{Content}
+use Rattle.hg_model.specs.declared.word.WordState.{WordState}
 
 pub more_line : (k : ℕ) (a b : List ℕ) → 0 < k → a ≡ decimal k → b ≡ codes " more accesses\n" → a ++ (b ++ []) ≡ more_text k
 more_line zero a b some p q = absurd (omega arith)
@@ -39,6 +42,23 @@ race_passed k w i sets kept d within other =
 -- four pieces, one behind the other
 pub four_joined : (old a b c new w x y z : List ℕ) → a ≡ old ++ w → b ≡ a ++ x → c ≡ b ++ y → new ≡ c ++ z → new ≡ old ++ (w ++ (x ++ (y ++ z)))
 four_joined old a b c new w x y z p q r s = s ∙ rw (r, q, p) (simp (append_assoc))
+
+-- no event is gone, and nothing is said
+pub gone_none : (held : List ℕ) (w : ℕ) (c : Content) → c.events ≡ 0 → held ≡ held ++ gone_text w c
+gone_none held w c is = sym (ap (λ (n : ℕ). held ++ gone_line n (c.words w)) is ∙ append-nil held)
+
+gone_many : (n : ℕ) (state : WordState) → 0 < n
+    → (codes "events 1 to " ++ decimal n) ++ (codes " are no longer kept ;" ++ (state_text state ++ 10 ∷ [])) ≡ gone_line n state
+gone_many zero state some = absurd (omega (arith, some))
+gone_many (suc n) state some = ap (λ t. (codes "events 1 to " ++ decimal (suc n)) ++ t) (sym (append_assoc (codes " are no longer kept ;") (state_text state) (10 ∷ [])))
+    ∙ sym (append_assoc (codes "events 1 to " ++ decimal (suc n)) (codes " are no longer kept ;" ++ state_text state) (10 ∷ []))
+
+-- some are, and their line is held piece by piece
+pub gone_some : (held one two three four : List ℕ) (w : ℕ) (c : Content) → 0 < c.events → one ≡ held ++ (codes "events 1 to " ++ decimal c.events)
+    → two ≡ one ++ codes " are no longer kept ;" → three ≡ two ++ state_text (c.words w) → four ≡ three ++ 10 ∷ [] → four ≡ held ++ gone_text w c
+gone_some held one two three four w c some p q r s =
+    four_joined held one two three four (codes "events 1 to " ++ decimal c.events) (codes " are no longer kept ;") (state_text (c.words w)) (10 ∷ []) p q r s
+    ∙ ap (λ t. held ++ t) (gone_many c.events (c.words w) some)
 
 -- what is left of a piece
 pub left_is : (n : ℕ) (xs : List ℕ) → take (length xs - n) (drop n xs) ≡ drop n xs

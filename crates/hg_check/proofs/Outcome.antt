@@ -1,7 +1,5 @@
 -- Each trace text leads to something.
-use Rattle.std.proofs.Common.{◌≡◌, ◌⊎◌, ℕ, zero, suc, ◌<◌, ◌≤◌, List, [], ◌∷◌, length, get_or, Contains, Some, None, Result, Ok, Err, refl, inl, inr, ⊎_elim, arith}
-use Rattle.std.proofs.lemmas.Bool.{cases_eq, cases_lt}
-use Rattle.std.proofs.lemmas.List.{length_push}
+use Rattle.std.proofs.Common.{◌≡◌, ℕ, ◌≤◌, List, [], ◌∷◌, length, Result, Ok, Err, refl, inl, inr, ⊎_elim, arith}
 use Rattle.hg_model.specs.declared.event.Event.{Event}
 use Rattle.hg_model.specs.declared.verdict.Refusal.TheVariants.{FullSets}
 use Rattle.hg_model.specs.declared.verdict.Verdict.{Verdict}
@@ -9,9 +7,8 @@ use Rattle.hg_model.specs.declared.verdict.Verdict.TheVariants.{Accept, Duplicat
 use Rattle.hg_model.specs.Change.{after, empty_content}
 use Rattle.hg_model.specs.Contents.{Content}
 use Rattle.hg_model.specs.Verdicts.{standing_of, verdict}
-use Rattle.hg_sets.specs.Interning.{Interns, StandsAt, Table, first_table, with_set}
-use Rattle.hg_sets.specs.declared.fault.SetFault.TheVariants.{Full}
-use Rattle.hg_detect.specs.Making.{Asks, sets_asked}
+use Rattle.hg_sets.specs.Interning.{Table, first_table}
+use Rattle.hg_detect.specs.Making.{sets_asked}
 use Rattle.hg_wire.specs.declared.line.LineFault.{LineFault}
 use Rattle.hg_wire.specs.declared.reader.Reading.{Reading}
 use Rattle.hg_wire.specs.Streams.{readings}

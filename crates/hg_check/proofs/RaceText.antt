@@ -10,9 +10,8 @@ use Rattle.hg_streams.specs.Calls.{given}
 use Rattle.hg_streams.specs.Written.{Took, TookFront}
 use Rattle.hg_model.specs.declared.verdict.Refusal.{Refusal}
 use Rattle.hg_streams.specs.Faults.{HasCause, HasWriteCause}
-use Rattle.hg_streams.specs.Holding.{IsDue}
 use Rattle.hg_streams.proofs.Inputs.{none_failed}
-use Rattle.hg_streams.proofs.Printed.{appends_none, front_none}
+use Rattle.hg_streams.proofs.Printed.{front_none}
 use Rattle.hg_reading.specs.declared.ending.Ending.{Ending}
 use Rattle.hg_reading.specs.declared.ending.Ending.TheVariants.{Ended, Refused, Bad}
 use Rattle.hg_reading.specs.Endings.{status_of}
@@ -108,7 +107,3 @@ write_cause old new r h =
 pub any_cause : (first now : List ReadCall) (input : List ℕ) (old new : List WriteCall) (r : Refusal) → IsKept first now input → HasWriteCause old new r → HasCause first now old new r
 any_cause first now input old new r h cause =
     cause_of first now old new r (none_failed first now (Gave [] ∷ h.kept.earlier) (h.met ∙ ap (λ xs. Gave [] ∷ xs) h.kept.since) h.kept.intact) cause
-
--- all is held and nothing written
-pub due_held : (old : List WriteCall) (held : List ℕ) → IsDue old old held [] held
-due_held old held = record { written = []; appended = appends_none old; whole = append-nil held }

@@ -1,7 +1,9 @@
 -- Definition: part of what `explain` promises. What is printed of a trace text, and what was written where a run broke off.
-use Rattle.std.specs.Prelude.{◌≡◌, ℕ, ◌*◌, ◌/◌, List, ◌∷◌, ◌++◌, Result, OnErr, codes}
+use Rattle.std.specs.Prelude.{◌≡◌, ℕ, ◌-◌, ◌*◌, ◌/◌, List, ◌∷◌, ◌++◌, Result, OnErr, codes}
 use Rattle.hg_model.specs.Contents.{Content}
 use Rattle.hg_model.specs.Change.{empty_content}
+use Rattle.hg_sets.specs.Interning.{Table, first_table}
+use Rattle.hg_sets.specs.declared.table.TheConstants.{MOST_SETS}
 use Rattle.hg_streams.specs.declared.call.ReadCall.{ReadCall}
 use Rattle.hg_streams.specs.declared.call.WriteCall.{WriteCall}
 use Rattle.hg_streams.specs.declared.call.WriteCall.TheVariants.{Flushed}
@@ -9,9 +11,9 @@ use Rattle.hg_streams.specs.Shown.{Incoming, Outgoing}
 use Rattle.hg_wire.specs.Readings.{readings}
 use Rattle.hg_wire.specs.Reports.{sixteen_digits}
 use Rattle.hg_reading.specs.declared.ending.Ending.{Ending}
-use Rattle.hg_check.specs.Checking.{ChecksTo}
+use Rattle.hg_check.specs.Checking.{ChecksFrom}
 use Rattle.hg_streams.specs.Calls.{MayBe}
-use Rattle.hg_check.specs.Printing.{ReadsTo, last_line}
+use Rattle.hg_check.specs.Printing.{ReadsFrom, last_line}
 use Rattle.hg_streams.specs.declared.streams.Streams.{Streams}
 use Rattle.hg_streams.specs.Texts.{line_text}
 use Rattle.hg_reading.specs.Endings.{status_of}
@@ -28,19 +30,37 @@ word_line w = codes "word 0x" ++ sixteen_digits (4 * w)
 abbrev pub explain_text : ℕ → Form → List ℕ → Content → Ending → List ℕ
 explain_text w form input c end = line_text (word_line w) ++ (life w form empty_content 0 c.events (readings input) ++ line_text (last_line c end))
 
--- The run came to this ending by what was read. The writer took exactly the text of the word for that input, and was flushed.
-pub record Explains (w : ℕ) (form : Form) (reads_old reads_new : List ReadCall) (old new : List WriteCall) (end : Ending) : Type 0 where
-  pub last : Content
-  pub leads : ReadsTo reads_old reads_new last end
-  pub printed : (input : List ℕ) → MayBe leads.later input → Took old new (explain_text w form input last end)
-  pub written : List WriteCall
-  pub flushed : new ≡ Flushed ∷ written
+-- The life of a word from a content on, behind a head: its life over the accepted lines of the input, and the line at which the input
+-- ended.
+abbrev pub life_text : List ℕ → ℕ → Form → Content → List ℕ → Content → Ending → List ℕ
+life_text head w form start input last end =
+    head ++ (life w form start 0 (last.events - start.events) (readings input) ++ line_text (last_line last end))
 
--- For each whole input that the reads allow, the written bytes are a front of the text for it.
-pub record WroteFrontOf (w : ℕ) (form : Form) (reads_old reads_new : List ReadCall) (old new : List WriteCall) : Type 0 where
-  pub later : List ReadCall
-  pub since : reads_new ≡ later ++ reads_old
-  pub front : (input : List ℕ) (c : Content) (end : Ending) → MayBe later input → ChecksTo input c end → TookFront old new (explain_text w form input c end)
+-- What is told of an input, from a table and a content on, by the text that is due for it.
+module _ (table : Table) (start : Content) (text : List ℕ → Content → Ending → List ℕ) where
+  -- The run came to this ending by what was read. The writer took exactly the text for that input, and was flushed.
+  pub record TellsFrom (reads_old reads_new : List ReadCall) (old new : List WriteCall) (end : Ending) : Type 0 where
+    pub last : Content
+    pub leads : ReadsFrom table start reads_old reads_new last end
+    pub printed : (input : List ℕ) → MayBe leads.later input → Took old new (text input last end)
+    pub written : List WriteCall
+    pub flushed : new ≡ Flushed ∷ written
+
+  -- For each whole input that the reads allow, the written bytes are a front of the text for it.
+  pub record WroteFrontFrom (reads_old reads_new : List ReadCall) (old new : List WriteCall) : Type 0 where
+    pub later : List ReadCall
+    pub since : reads_new ≡ later ++ reads_old
+    pub front : (input : List ℕ) (c : Content) (end : Ending) → MayBe later input → ChecksFrom table start input c end → TookFront old new (text input c end)
+
+-- `TellsFrom`, of the text of the word, from the content of an empty trace on.
+abbrev pub Explains : ℕ → Form → List ReadCall → List ReadCall → List WriteCall → List WriteCall → Ending → Type 0
+Explains w form reads_old reads_new old new end =
+    TellsFrom (first_table MOST_SETS) empty_content (explain_text w form) reads_old reads_new old new end
+
+-- `WroteFrontFrom`, of the text of the word, from the content of an empty trace on.
+abbrev pub WroteFrontOf : ℕ → Form → List ReadCall → List ReadCall → List WriteCall → List WriteCall → Type 0
+WroteFrontOf w form reads_old reads_new old new =
+    WroteFrontFrom (first_table MOST_SETS) empty_content (explain_text w form) reads_old reads_new old new
 
 -- `Explains` for what is asked, by the streams.
 abbrev pub PrintsLife : {R W : Type 0} → Asked → Incoming R → Incoming R → Outgoing W → Outgoing W → Ending → Type 0

@@ -6,6 +6,7 @@ pub mod Taking
 pub mod TakingLaws
 pub mod Life
 pub mod Explaining
+pub mod Behind
 pub mod Telling
 pub mod Holding
 pub mod LifeLaws

@@ -18,8 +18,10 @@ use Rattle.hg_wire.specs.declared.line.LineFault.{LineFault}
 use Rattle.hg_wire.specs.declared.reader.Reading.{Reading}
 use Rattle.hg_wire.specs.Readings.{readings}
 use Rattle.hg_wire.specs.Reports.{access_name, predecessors_text}
+use Rattle.hg_sets.specs.Interning.{Table}
 use Rattle.hg_reading.specs.declared.ending.Ending.{Ending}
-use Rattle.hg_check.specs.Checking.{ChecksTo, next_named}
+use Rattle.hg_reading.specs.declared.ending.Ending.TheVariants.{Ended}
+use Rattle.hg_check.specs.Checking.{ChecksTo, LeadsTo, next_named}
 use Rattle.hg_streams.specs.Texts.{line_text}
 use Rattle.hg_check.specs.declared.explain.form.Form.{Form}
 use Rattle.hg_check.specs.Life.{accesses, actor_of, changes_text, concerns, differs, life, look_of, more_text, place_in, race_text, state_text}
@@ -83,6 +85,19 @@ story w form past k (suc n) (r ∷ later) = story_line w form past k r.line r.ev
 abbrev pub LifeIsTheStory : Type 0
 LifeIsTheStory = (w : ℕ) (form : Form) (bytes : List ℕ) (c : Content) (end : Ending) → ChecksTo bytes c end
     → life w form empty_content 0 c.events (readings bytes) ≡ story w form [] 0 c.events (readings bytes)
+
+-- The life over these lines and whatever follows them, from one content on, is a front and the life from another content on over what
+-- follows. The front is the life over these lines but for the count at its end; there is none where each access has a line.
+pub record GoesOn (w : ℕ) (form : Form) (c : Content) (k : ℕ) (lines : List Reading) (d : Content) : Type 0 where
+  pub front : List ℕ
+  pub hidden : ℕ
+  pub told : life w form c k (length lines) lines ≡ front ++ more_text hidden
+  pub on : (n : ℕ) (later : List Reading) → life w form c k (length lines + n) (lines ++ later) ≡ front ++ life w form d hidden n later
+  pub all : form.all ≡ true → k ≡ 0 → hidden ≡ 0
+
+-- Where lines are accepted and lead from one content to another, the life goes on from that one.
+abbrev pub LifeGoesOn : Type 0
+LifeGoesOn = (w : ℕ) (form : Form) (table : Table) (c d : Content) (lines : List Reading) → LeadsTo lines table c d Ended → GoesOn w form c 0 lines d
 
 -- A race stands on the line of an event where the word is reported at it, while all reports are kept, and on no other line.
 pub record RacesAreTheReports : Type 0 where

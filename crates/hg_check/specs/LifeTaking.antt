@@ -11,11 +11,11 @@ use Rattle.hg_streams.specs.Told.{told}
 use Rattle.hg_wire.specs.declared.reader.Reading.{Reading}
 use Rattle.hg_reading.specs.declared.ending.Ending.{Ending}
 use Rattle.hg_streams.specs.Holding.{IsDue}
-use Rattle.hg_check.specs.Running.{IsStart, LeadsFrom, Steps}
+use Rattle.hg_check.specs.Running.{LeadsFrom, Steps}
 use Rattle.hg_streams.specs.Faults.{HasWriteCause}
 use Rattle.hg_streams.specs.Written.{TookFront}
 use Rattle.hg_streams.specs.Shown.{Incoming, Outgoing}
-use Rattle.hg_check.specs.Explaining.{WroteFrontOf, word_line}
+use Rattle.hg_check.specs.Explaining.{TellsFrom, WroteFrontFrom, life_text, word_line}
 use Rattle.hg_check.specs.declared.explain.explaining.Explaining.{Explaining}
 use Rattle.hg_check.specs.declared.explain.form.Form.{Form}
 use Rattle.hg_streams.specs.Texts.{line_text}
@@ -61,11 +61,14 @@ pub record ExplainsLines (old : Explaining) (before : List WriteCall) (lines : L
   pub cause : (x : Refusal) → r ≡ Err x → HasWriteCause before now x
   pub failures : failed_writes now ≡ told r + failed_writes before
 
--- A detector that has accepted no event; nothing was told.
+-- Nothing was told of the word so far.
 pub record IsFresh (s : Explaining) : Type 0 where
   pub ready : IsReady s
-  pub start : IsStart s.detector
   pub none : s.more ≡ 0
+
+-- What is due: the held text, the life of the word from the present content on, and the line at which the input ends.
+abbrev pub due_text : Explaining → List ℕ → Content → Ending → List ℕ
+due_text s input last end = life_text s.held.items s.asked.word s.asked.form (content_of s.detector) input last end
 
 -- `look` is how the word looks now.
 abbrev pub Looks : Explaining → Type 0
@@ -104,21 +107,26 @@ TellsEvent old from line e new =
 abbrev pub HoldsWord : Explaining → List WriteCall → List WriteCall → Type 0
 HoldsWord s first now = IsDue first now s.held.items [] (line_text (word_line s.asked.word))
 
+-- A run from here on came to an ending, and what is due was printed and flushed.
+abbrev pub TellsDue : {R W : Type 0} → Explaining → Incoming R → Incoming R → Outgoing W → Outgoing W → Ending → Type 0
+TellsDue s reads later writes now end =
+    TellsFrom s.detector.sets (content_of s.detector) (due_text s) reads.calls later.calls writes.calls now.calls end
+
+-- Where a run from here on failed, what was written is a front of what is due.
+abbrev pub LeavesFrontOfDue : {T E R W : Type 0} → Result T E → Explaining → Incoming R → Incoming R → Outgoing W → Outgoing W → Type 0
+LeavesFrontOfDue r s reads later writes now =
+    OnErr r (WroteFrontFrom s.detector.sets (content_of s.detector) (due_text s) reads.calls later.calls writes.calls now.calls)
+
 -- A run came to an ending, and the life of the word was written or is held.
 abbrev pub HasTold : {R W : Type 0} → Explaining → Explaining → Incoming R → Incoming R → Outgoing W → Outgoing W → Ending → Type 0
 HasTold old new reads later writes now end =
-    HasRun old.asked.word old.asked.form reads.calls later.calls writes.calls now.calls old.held.items new.held.items (content_of new.detector) new.more end
-
--- Where a run failed, what was written since the line of the word was held is a front of what was due.
-abbrev pub LeavesFrontOfHeld : {T E R W : Type 0} → Result T E → Explaining → Incoming R → Incoming R → Outgoing W → Outgoing W → Type 0
-LeavesFrontOfHeld r s reads later writes now =
-    (first : List WriteCall) → HoldsWord s first writes.calls → OnErr r (WroteFrontOf s.asked.word s.asked.form reads.calls later.calls first now.calls)
+    HasRun old.detector.sets (content_of old.detector) old.asked.word old.asked.form reads.calls later.calls writes.calls now.calls old.held.items new.held.items (content_of new.detector) new.more end
 
 -- `HasTold` of a text in memory.
 abbrev pub HasToldText : {W : Type 0} → List ℕ → Explaining → Explaining → Outgoing W → Outgoing W → Ending → Type 0
 HasToldText input old new writes now end =
     HasRunText old.asked.word old.asked.form input writes.calls now.calls old.held.items new.held.items (content_of new.detector) new.more end
 
--- `LeavesFrontOfHeld` of a text in memory.
+-- Where offering a text in memory failed, what was written since the line of the word was held is a front of what was due.
 abbrev pub LeavesFrontOfText : {T E W : Type 0} → Result T E → List ℕ → Explaining → Outgoing W → Outgoing W → Type 0
 LeavesFrontOfText r input s writes now = (first : List WriteCall) → HoldsWord s first writes.calls → OnErr r (TellsLifeFront input s.asked first now.calls)

@@ -1,5 +1,6 @@
 //! The command that explains a word: who accessed it, under which locks, and what that made of it.
 pub mod address;
+pub mod behind;
 pub mod commands;
 pub mod event_line;
 pub mod explaining;

@@ -5,7 +5,8 @@ ghost use Rattle.hg_streams.specs.Faults.{EndsByFault, HasCause, TellsNoFault};
 ghost use Rattle.hg_detect.specs.Memory.{content_of};
 ghost use Rattle.hg_check.specs.Explaining.{EndsEarly, EndsWell, LeavesFront, PrintsLife, asked_at, end_text};
 ghost use Rattle.hg_check.specs.Holding.{HoldsMore};
-ghost use Rattle.hg_check.specs.LifeTaking.{IsFresh};
+ghost use Rattle.hg_check.specs.LifeTaking.{IsFresh, LeavesFrontOfDue, TellsDue};
+ghost use Rattle.hg_check.specs.Running.{HasRoom, IsStart};
 
 use crate::explain::address::hold_word;
 use crate::explain::event_line::hold_more;
@@ -24,7 +25,7 @@ use hg_streams::telling::end_by_fault;
 use std::alloc::Global;
 use std::io::{Read, Write};
 
-/// Runs a fresh detector, and tells the life of a word as it comes, and at last how the run ended.
+/// Runs a detector that has accepted no event, and tells the life of a word behind the word's line.
 fn run_explain<R: Read, W: Write>(
     alloc: Global,
     explaining: &mut Explaining,
@@ -32,12 +33,29 @@ fn run_explain<R: Read, W: Write>(
     output: &mut Output<W>,
 ) -> Result<Ending, Refusal>
     requires fresh { IsFresh explaining.old }
+    requires start { IsStart explaining.old.detector }
     requires none { explaining.old.held.items ≡ [] }
     ensures prints { IfOk result (PrintsLife explaining.old.asked input.old input.new output.old output.new) }
     ensures front { LeavesFront result explaining.old.asked input.old input.new output.old output.new }
     ensures cause { IfErr result (λ r. HasCause input.old.calls input.new.calls output.old.calls output.new.calls r) }
 {
     hold_word(explaining.asked.word, &mut explaining.held)?;
+    tell_on(alloc, explaining, input, output)
+}
+
+/// Runs a detector, and tells the life of a word as it comes, behind what is held, and at last how the run ended.
+pub(crate) fn tell_on<R: Read, W: Write>(
+    alloc: Global,
+    explaining: &mut Explaining,
+    input: &mut Input<R>,
+    output: &mut Output<W>,
+) -> Result<Ending, Refusal>
+    requires fresh { IsFresh explaining.old }
+    requires room { HasRoom explaining.old.detector }
+    ensures prints { IfOk result (TellsDue explaining.old input.old input.new output.old output.new) }
+    ensures front { LeavesFrontOfDue result explaining.old input.old input.new output.old output.new }
+    ensures cause { IfErr result (λ r. HasCause input.old.calls input.new.calls output.old.calls output.new.calls r) }
+{
     let end = run(alloc, explaining, input, output)?;
     hold_end(
         &explaining.detector,

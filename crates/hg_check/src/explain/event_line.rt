@@ -110,7 +110,11 @@ fn hold_sets(
 }
 
 /// Holds the state of a word.
-fn hold_state(detector: &MemoryDetector, word: u64, held: &mut Vec<u8>) -> Result<(), Refusal>
+pub(crate) fn hold_state(
+    detector: &MemoryDetector,
+    word: u64,
+    held: &mut Vec<u8>,
+) -> Result<(), Refusal>
     requires whole { IsWhole detector.now }
     ensures ok { HoldsMore result held.old held.new (life.state_text ((content_of detector.now).words word)) }
     ensures cause { IfErr result (λ r. r ≡ Refusal.OutOfMemory) }

@@ -1,13 +1,14 @@
 //! Explaining a word: a detector that takes the lines of a trace text, and tells those that concern the word.
 
 ghost use Rattle.std.specs.Prelude.{◌≡◌, ◌+◌, ◌<◌, ◌^◌, [], IfErr, IfOk};
+ghost use Rattle.hg_detect.specs.Memory.{IsWhole};
 ghost use Rattle.hg_streams.specs.Holding.{HoldsOrWrites, WritesFront};
 ghost use Rattle.hg_streams.specs.Faults.{HasWriteCause};
 ghost use Rattle.hg_streams.specs.Calls.{failed_writes};
 ghost use Rattle.hg_streams.specs.Told.{told};
 
 use crate::explain::form::Asked;
-use crate::explain::look::Look;
+use crate::explain::look::{Look, look_at};
 use hg_detect::memory::{MemoryDetector, new_detector};
 use hg_model::verdict::Refusal;
 use hg_reading::ending::Ending;
@@ -45,23 +46,38 @@ pub struct Explaining {
 
 impl Explaining {
     ghost use Rattle.hg_check.specs.LifeTaking.{IsFresh};
+    ghost use Rattle.hg_check.specs.Running.{IsStart};
 
-    /// A detector that has accepted no event.
+    /// A detector whose later events are told. Nothing is held.
+    pub fn behind(alloc: Global, detector: MemoryDetector, asked: Asked) -> Explaining
+        requires whole { IsWhole detector }
+        requires word { asked.word < 2 ^ 62 }
+        ensures fresh { IsFresh result }
+        ensures detector { result.detector ≡ detector }
+        ensures asked { result.asked ≡ asked }
+        ensures none { result.held.items ≡ [] }
+    {
+        let look = look_at(&detector, asked.word);
+        Explaining {
+            asked,
+            detector,
+            look,
+            more: 0,
+            held: Vec::new(alloc),
+        }
+    }
+
+    /// A detector that has accepted no event. Nothing is held.
     pub fn new(alloc: Global, asked: Asked) -> Result<Explaining, Refusal>
         requires word { asked.word < 2 ^ 62 }
         ensures fresh { IfOk result IsFresh }
+        ensures start { IfOk result (λ s. IsStart s.detector) }
         ensures asked { IfOk result (λ s. s.asked ≡ asked) }
         ensures none { IfOk result (λ s. s.held.items ≡ []) }
         ensures cause { IfErr result (λ r. r ≡ Refusal.OutOfMemory) }
     {
         let detector = new_detector(alloc, MOST_SETS)?;
-        Ok(Explaining {
-            asked,
-            detector,
-            look: Look::Fresh,
-            more: 0,
-            held: Vec::new(alloc),
-        })
+        Ok(Explaining::behind(alloc, detector, asked))
     }
 }
 

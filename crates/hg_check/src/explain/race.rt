@@ -7,6 +7,7 @@ ghost use Rattle.hg_check.specs.Checking.{ChecksTo};
 ghost use Rattle.hg_check.specs.Holding.{HoldsMore};
 ghost use Rattle.hg_check.specs.LifeTaking.{HasToldText, IsFresh as IsFreshLife, LeavesFrontOfText};
 ghost use Rattle.hg_check.specs.RaceLife.{EndsEarly, EndsWell, IsFound, PrintsRace, StoppedInRace, TellsLife, TellsLifeFront, TellsRace, TellsRaceFront, no_race_text, word_of_race};
+ghost use Rattle.hg_check.specs.Running.{IsStart};
 ghost use Rattle.hg_check.specs.Taking.{IsFresh};
 
 use crate::checking::Checking;
@@ -106,6 +107,7 @@ fn run_text<W: Write>(
     output: &mut Output<W>,
 ) -> Result<Ending, Refusal>
     requires fresh { IsFreshLife explaining.old }
+    requires start { IsStart explaining.old.detector }
     ensures ends { IfOk result (HasToldText text.now explaining.old explaining.new output.old output.new) }
     ensures front { LeavesFrontOfText result text.now explaining.old output.old output.new }
     ensures cause { IfErr result (HasWriteCause output.old.calls output.new.calls) }
@@ -123,6 +125,7 @@ fn tell_life<W: Write>(
     output: &mut Output<W>,
 ) -> Result<Ending, Refusal>
     requires fresh { IsFreshLife explaining.old }
+    requires start { IsStart explaining.old.detector }
     requires none { explaining.old.held.items ≡ [] }
     ensures prints { IfOk result (TellsLife text.now explaining.old.asked output.old.calls output.new.calls) }
     ensures front { OnErr result (TellsLifeFront text.now explaining.old.asked output.old.calls output.new.calls) }

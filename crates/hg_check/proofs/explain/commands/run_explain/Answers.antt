@@ -1,138 +1,38 @@
-use Rattle.std.proofs.Common.{[], ◌++◌, subst}
-use Rattle.std.proofs.lemmas.Result.{err_from_is_err_and}
+use Rattle.std.proofs.Common.{ap, arith}
+use Rattle.std.proofs.lemmas.Result.{IfOk-weaker, on_err_weaker}
+use Rattle.hg_model.specs.Contents.{Content}
+use Rattle.hg_model.specs.Change.{empty_content}
+use Rattle.hg_sets.specs.Interning.{first_table}
 use Rattle.hg_detect.specs.Memory.{content_of}
-use Rattle.hg_streams.specs.Holding.{IsDue}
-use Rattle.hg_check.specs.Printing.{last_line}
 use Rattle.hg_streams.specs.Texts.{line_text}
-use Rattle.hg_streams.specs.Written.{Took, TookFront}
-use Rattle.hg_streams.proofs.Printed.{always_err, cause_by_flush, cause_by_write, due_at_first, due_flushed, due_line, front_by_flush, front_due, front_more, front_none, took_by_flush}
-use Rattle.hg_check.specs.Explaining.{WroteFrontOf, explain_text, word_line}
-use Rattle.hg_check.specs.Life.{more_text}
-use Rattle.hg_check.proofs.Running.{whole_text, wrote_none, wrote_settled}
-use Rattle.hg_check.proofs.Whole.{cause_by_memory}
+use Rattle.hg_streams.proofs.Printed.{always_err}
+use Rattle.hg_check.specs.Explaining.{Explains, TellsFrom, explain_text, life_text, word_line}
+use Rattle.hg_check.proofs.Running.{front_of_all, one_held, told_of_all, wrote_none}
 use Rattle.hg_check.proofs.explain.commands.run_explain.Goals as goal
 
 pub returns-in_err-hold_word-clause-front : goal.returns-in_err-hold_word-clause-front
 returns-in_err-hold_word-clause-front g c =
-    always_err _ (wrote_none c.args.explaining.now.asked.word c.args.explaining.now.asked.form c.args.input.now.calls c.args.output.now.calls c.args.output.now.calls (front_none c.args.output.now.calls (line_text (word_line c.args.explaining.now.asked.word))))
+    always_err _ (wrote_none (first_table 262144) empty_content (explain_text c.args.explaining.now.asked.word c.args.explaining.now.asked.form) c.args.input.now.calls c.args.output.now.calls)
 
-pub returns-in_err-end-clause-front : goal.returns-in_err-end-clause-front
-returns-in_err-end-clause-front g c =
-    let old = c.args.output.now.calls in
-    let mid = c.run.new.output.calls in
-    let head = line_text (word_line c.args.explaining.now.asked.word) in
-    let start : IsDue old old c.hold_word.new.held.items [] head = due_line old old c.args.explaining.now.held.items c.hold_word.new.held.items head [] c.in_ok-hold_word.ensures.ok (due_at_first old c.args.explaining.now.held.items c.requires.none) in
-    always_err {P = WroteFrontOf c.args.explaining.now.asked.word c.args.explaining.now.asked.form c.args.input.now.calls c.run.new.input.calls old mid} _ (c.in_err-end.ensures.front old start)
-
-pub returns-in_err-hold_end-clause-front : goal.returns-in_err-hold_end-clause-front
-returns-in_err-hold_end-clause-front g c =
-    let old = c.args.output.now.calls in
-    let mid = c.run.new.output.calls in
-    let head = line_text (word_line c.args.explaining.now.asked.word) in
-    let start : IsDue old old c.hold_word.new.held.items [] head = due_line old old c.args.explaining.now.held.items c.hold_word.new.held.items head [] c.in_ok-hold_word.ensures.ok (due_at_first old c.args.explaining.now.held.items c.requires.none) in
-    let last = content_of c.run.new.explaining.detector in
-    let ran = c.in_ok-end.ensures.ends in
-    let due : IsDue old mid c.run.new.explaining.held.items [] (head ++ ran.told) = ran.due old head start in
-    let rest = more_text c.run.new.explaining.more ++ line_text (last_line last c.in_ok-end.end) in
-    let goal_text = (head ++ ran.told) ++ rest in
-    always_err _ (wrote_settled c.args.explaining.now.asked.word c.args.explaining.now.asked.form c.args.input.now.calls c.run.new.input.calls old mid last c.in_ok-end.end ran.leads.leads
-    (λ input m. front_more old mid (head ++ ran.told) rest (explain_text c.args.explaining.now.asked.word c.args.explaining.now.asked.form input last c.in_ok-end.end) (whole_text c.args.explaining.now.asked.word c.args.explaining.now.asked.form last c.in_ok-end.end ran.told c.run.new.explaining.more input (ran.leads.text input m)) (front_due old mid c.run.new.explaining.held.items [] (head ++ ran.told) due)))
-
-pub returns-in_err-write_out-clause-front : goal.returns-in_err-write_out-clause-front
-returns-in_err-write_out-clause-front g c =
-    let old = c.args.output.now.calls in
-    let mid = c.run.new.output.calls in
-    let head = line_text (word_line c.args.explaining.now.asked.word) in
-    let start : IsDue old old c.hold_word.new.held.items [] head = due_line old old c.args.explaining.now.held.items c.hold_word.new.held.items head [] c.in_ok-hold_word.ensures.ok (due_at_first old c.args.explaining.now.held.items c.requires.none) in
-    let last = content_of c.run.new.explaining.detector in
-    let ran = c.in_ok-end.ensures.ends in
-    let due : IsDue old mid c.run.new.explaining.held.items [] (head ++ ran.told) = ran.due old head start in
-    let rest = more_text c.run.new.explaining.more ++ line_text (last_line last c.in_ok-end.end) in
-    let goal_text = (head ++ ran.told) ++ rest in
-    let all_due : IsDue old mid c.hold_end.new.held.items [] goal_text = due_line old mid c.run.new.explaining.held.items c.hold_end.new.held.items rest (head ++ ran.told) c.in_ok-hold_end.ensures.ok due in
-    always_err _ (wrote_settled c.args.explaining.now.asked.word c.args.explaining.now.asked.form c.args.input.now.calls c.run.new.input.calls old c.write_out.new.output.calls last c.in_ok-end.end ran.leads.leads
-    (λ input m. subst (λ x. TookFront old c.write_out.new.output.calls x) (whole_text c.args.explaining.now.asked.word c.args.explaining.now.asked.form last c.in_ok-end.end ran.told c.run.new.explaining.more input (ran.leads.text input m)) (c.in_err-write_out.ensures.front old [] goal_text all_due)))
-
-pub returns-in_err-write_out-clause-cause : goal.returns-in_err-write_out-clause-cause
-returns-in_err-write_out-clause-cause g c =
-    let old = c.args.output.now.calls in
-    let mid = c.run.new.output.calls in
-    let head = line_text (word_line c.args.explaining.now.asked.word) in
-    let start : IsDue old old c.hold_word.new.held.items [] head = due_line old old c.args.explaining.now.held.items c.hold_word.new.held.items head [] c.in_ok-hold_word.ensures.ok (due_at_first old c.args.explaining.now.held.items c.requires.none) in
-    let last = content_of c.run.new.explaining.detector in
-    let ran = c.in_ok-end.ensures.ends in
-    let due : IsDue old mid c.run.new.explaining.held.items [] (head ++ ran.told) = ran.due old head start in
-    let rest = more_text c.run.new.explaining.more ++ line_text (last_line last c.in_ok-end.end) in
-    let goal_text = (head ++ ran.told) ++ rest in
-    let all_due : IsDue old mid c.hold_end.new.held.items [] goal_text = due_line old mid c.run.new.explaining.held.items c.hold_end.new.held.items rest (head ++ ran.told) c.in_ok-hold_end.ensures.ok due in
-    let q = err_from_is_err_and c.from_residual-in_err-write_out.result c.from_residual-in_err-write_out.ensures.1 in
-    rw (q.1, q.2)
-    (cause_by_write c.args.input.now.calls c.run.new.input.calls old mid c.write_out.new.output.calls c.hold_end.new.held.items [] goal_text c.in_err-write_out.field-0.0 c.in_ok-end.ensures.memory
-    all_due c.in_err-write_out.ensures.cause c.in_err-write_out.ensures.fault)
-
-pub returns-in_err-flush-clause-front : goal.returns-in_err-flush-clause-front
-returns-in_err-flush-clause-front g c =
-    let old = c.args.output.now.calls in
-    let mid = c.run.new.output.calls in
-    let head = line_text (word_line c.args.explaining.now.asked.word) in
-    let start : IsDue old old c.hold_word.new.held.items [] head = due_line old old c.args.explaining.now.held.items c.hold_word.new.held.items head [] c.in_ok-hold_word.ensures.ok (due_at_first old c.args.explaining.now.held.items c.requires.none) in
-    let last = content_of c.run.new.explaining.detector in
-    let ran = c.in_ok-end.ensures.ends in
-    let due : IsDue old mid c.run.new.explaining.held.items [] (head ++ ran.told) = ran.due old head start in
-    let rest = more_text c.run.new.explaining.more ++ line_text (last_line last c.in_ok-end.end) in
-    let goal_text = (head ++ ran.told) ++ rest in
-    let all_due : IsDue old mid c.hold_end.new.held.items [] goal_text = due_line old mid c.run.new.explaining.held.items c.hold_end.new.held.items rest (head ++ ran.told) c.in_ok-hold_end.ensures.ok due in
-    always_err _ (wrote_settled c.args.explaining.now.asked.word c.args.explaining.now.asked.form c.args.input.now.calls c.run.new.input.calls old c.flush.new.self.calls last c.in_ok-end.end ran.leads.leads
-    (λ input m. subst (λ x. TookFront old c.flush.new.self.calls x) (whole_text c.args.explaining.now.asked.word c.args.explaining.now.asked.form last c.in_ok-end.end ran.told c.run.new.explaining.more input (ran.leads.text input m))
-    (front_by_flush old c.write_out.new.output.calls c.flush.new.self.calls c.write_out.new.held.items [] goal_text c.in_err-flush.ensures.calls (c.in_ok-write_out.ensures.printed old [] goal_text all_due))))
-
-pub returns-in_err-hold_end-clause-cause : goal.returns-in_err-hold_end-clause-cause
-returns-in_err-hold_end-clause-cause g c =
-    let old = c.args.output.now.calls in
-    let mid = c.run.new.output.calls in
-    let head = line_text (word_line c.args.explaining.now.asked.word) in
-    let start : IsDue old old c.hold_word.new.held.items [] head = due_line old old c.args.explaining.now.held.items c.hold_word.new.held.items head [] c.in_ok-hold_word.ensures.ok (due_at_first old c.args.explaining.now.held.items c.requires.none) in
-    let ran = c.in_ok-end.ensures.ends in
-    let due : IsDue old mid c.run.new.explaining.held.items [] (head ++ ran.told) = ran.due old head start in
-    let q = err_from_is_err_and c.from_residual-in_err-hold_end.result c.from_residual-in_err-hold_end.ensures.1 in
-    rw (q.1, q.2)
-    (cause_by_memory c.args.input.now.calls c.run.new.input.calls old mid c.run.new.explaining.held.items [] (head ++ ran.told) c.in_err-hold_end.field-0.0 c.in_ok-end.ensures.memory due c.in_err-hold_end.ensures.cause)
-
-pub returns-in_err-flush-clause-cause : goal.returns-in_err-flush-clause-cause
-returns-in_err-flush-clause-cause g c =
-    let old = c.args.output.now.calls in
-    let mid = c.run.new.output.calls in
-    let head = line_text (word_line c.args.explaining.now.asked.word) in
-    let start : IsDue old old c.hold_word.new.held.items [] head = due_line old old c.args.explaining.now.held.items c.hold_word.new.held.items head [] c.in_ok-hold_word.ensures.ok (due_at_first old c.args.explaining.now.held.items c.requires.none) in
-    let last = content_of c.run.new.explaining.detector in
-    let ran = c.in_ok-end.ensures.ends in
-    let due : IsDue old mid c.run.new.explaining.held.items [] (head ++ ran.told) = ran.due old head start in
-    let rest = more_text c.run.new.explaining.more ++ line_text (last_line last c.in_ok-end.end) in
-    let goal_text = (head ++ ran.told) ++ rest in
-    let all_due : IsDue old mid c.hold_end.new.held.items [] goal_text = due_line old mid c.run.new.explaining.held.items c.hold_end.new.held.items rest (head ++ ran.told) c.in_ok-hold_end.ensures.ok due in
-    let q = err_from_is_err_and c.from_residual-in_err-flush.result c.from_residual-in_err-flush.ensures.1 in
-    rw (q.1, q.2)
-    (cause_by_flush c.args.input.now.calls c.run.new.input.calls old c.write_out.new.output.calls c.flush.new.self.calls c.write_out.new.held.items [] goal_text c.in_err-flush.field-0.0 c.in_ok-end.ensures.memory
-    (c.in_ok-write_out.ensures.printed old [] goal_text all_due) c.in_err-flush.ensures.cause c.in_err-flush.ensures.calls)
+pub tell_on-requires-clause-room : goal.tell_on-requires-clause-room
+tell_on-requires-clause-room g c = omega (arith, ap (λ (x : Content). x.last 0) c.requires.start.content)
 
 pub returns-clause-prints : goal.returns-clause-prints
 returns-clause-prints g c =
-    let old = c.args.output.now.calls in
-    let mid = c.run.new.output.calls in
-    let head = line_text (word_line c.args.explaining.now.asked.word) in
-    let start : IsDue old old c.hold_word.new.held.items [] head = due_line old old c.args.explaining.now.held.items c.hold_word.new.held.items head [] c.in_ok-hold_word.ensures.ok (due_at_first old c.args.explaining.now.held.items c.requires.none) in
-    let last = content_of c.run.new.explaining.detector in
-    let ran = c.in_ok-end.ensures.ends in
-    let due : IsDue old mid c.run.new.explaining.held.items [] (head ++ ran.told) = ran.due old head start in
-    let rest = more_text c.run.new.explaining.more ++ line_text (last_line last c.in_ok-end.end) in
-    let goal_text = (head ++ ran.told) ++ rest in
-    let all_due : IsDue old mid c.hold_end.new.held.items [] goal_text = due_line old mid c.run.new.explaining.held.items c.hold_end.new.held.items rest (head ++ ran.told) c.in_ok-hold_end.ensures.ok due in
-    record {
-      last = last;
-      leads = ran.leads.leads;
-      printed = λ input m. subst (λ x. Took old c.flush.new.self.calls x) (whole_text c.args.explaining.now.asked.word c.args.explaining.now.asked.form last c.in_ok-end.end ran.told c.run.new.explaining.more input (ran.leads.text input m))
-          (due_flushed old c.write_out.new.output.calls c.flush.new.self.calls c.write_out.new.held.items goal_text c.in_ok-write_out.ensures.none
-          (c.in_ok-write_out.ensures.printed old [] goal_text all_due) (took_by_flush c.write_out.new.output.calls c.flush.new.self.calls c.in_ok-flush.ensures.calls));
-      written = c.write_out.new.output.calls;
-      flushed = c.in_ok-flush.ensures.calls;
-    }
+    let s = c.args.explaining.now in
+    let head = c.hold_word.new.held.items in
+    IfOk-weaker c.tell_on.result
+    (λ end. TellsFrom s.detector.sets (content_of s.detector) (life_text head s.asked.word s.asked.form (content_of s.detector)) c.args.input.now.calls c.tell_on.new.input.calls c.args.output.now.calls c.tell_on.new.output.calls end)
+    (λ end. Explains s.asked.word s.asked.form c.args.input.now.calls c.tell_on.new.input.calls c.args.output.now.calls c.tell_on.new.output.calls end)
+    (λ end told. told_of_all s.detector head s.asked.word s.asked.form c.args.input.now.calls c.tell_on.new.input.calls c.args.output.now.calls c.tell_on.new.output.calls end c.requires.start
+    (one_held s.held.items head (line_text (word_line s.asked.word)) c.requires.none c.in_ok-hold_word.ensures.ok) told)
+    c.tell_on.ensures.prints
+
+pub returns-clause-front : goal.returns-clause-front
+returns-clause-front g c =
+    let s = c.args.explaining.now in
+    let head = c.hold_word.new.held.items in
+    on_err_weaker c.tell_on.result
+    (λ wrote. front_of_all s.detector head s.asked.word s.asked.form c.args.input.now.calls c.tell_on.new.input.calls c.args.output.now.calls c.tell_on.new.output.calls c.requires.start
+    (one_held s.held.items head (line_text (word_line s.asked.word)) c.requires.none c.in_ok-hold_word.ensures.ok) wrote)
+    c.tell_on.ensures.front

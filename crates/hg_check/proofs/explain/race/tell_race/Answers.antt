@@ -1,7 +1,8 @@
 use Rattle.std.proofs.Common.{ℕ, [], Option, subst}
 use Rattle.hg_streams.proofs.Printed.{always_err, due_flushed, front_by_flush, took_by_flush}
 use Rattle.hg_check.specs.RaceLife.{IsFound}
-use Rattle.hg_check.proofs.RaceText.{due_held, race_front, race_none, race_none_front, race_told}
+use Rattle.hg_check.proofs.Running.{due_held}
+use Rattle.hg_check.proofs.RaceText.{race_front, race_none, race_none_front, race_told}
 use Rattle.hg_check.proofs.explain.race.tell_race.Goals as goal
 
 pub returns-in_err-end-in-Some-clause-front : goal.returns-in_err-end-in-Some-clause-front

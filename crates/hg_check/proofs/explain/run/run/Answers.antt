@@ -1,6 +1,5 @@
-use Rattle.std.proofs.Common.{arith, sym, ap, subst}
+use Rattle.std.proofs.Common.{sym, subst}
 use Rattle.std.proofs.lemmas.Result.{err_from_is_err_and}
-use Rattle.hg_model.specs.Contents.{Content}
 use Rattle.hg_streams.proofs.Inputs.{none_failed}
 use Rattle.hg_streams.proofs.Printed.{always_err}
 use Rattle.hg_detect.specs.Memory.{content_of}
@@ -9,11 +8,11 @@ use Rattle.hg_check.proofs.LifeWhole.{broke, broke_cause, has_run}
 use Rattle.hg_check.proofs.explain.run.run.Goals as goal
 
 pub read-requires : goal.read-requires
-read-requires g c = record { room = (c.requires.fresh.ready, omega (arith, ap (λ (x : Content). x.last 0) c.requires.fresh.start.content)); settled = tt }
+read-requires g c = record { room = (c.requires.fresh.ready, c.requires.room); settled = tt }
 
 pub returns-in_err-stop-clause-front : goal.returns-in_err-stop-clause-front
-returns-in_err-stop-clause-front g c first due =
-    always_err _ (broke c.args.input.now.calls c.read.new.input.calls c.args.explaining.now c.read.new.sink c.args.output.now.calls c.read.new.output.calls first c.in_err-stop.field-0.0 c.requires.fresh c.in_err-stop.ensures due)
+returns-in_err-stop-clause-front g c =
+    always_err _ (broke c.args.input.now.calls c.read.new.input.calls c.args.explaining.now c.read.new.sink c.args.output.now.calls c.read.new.output.calls c.in_err-stop.field-0.0 c.requires.fresh c.in_err-stop.ensures)
 
 pub returns-in_err-stop-clause-cause : goal.returns-in_err-stop-clause-cause
 returns-in_err-stop-clause-cause g c =
@@ -23,7 +22,8 @@ returns-in_err-stop-clause-cause g c =
 
 pub returns-clause-ends : goal.returns-clause-ends
 returns-clause-ends g c =
-    subst (λ end. HasRun c.args.explaining.now.asked.word c.args.explaining.now.asked.form c.args.input.now.calls c.read.new.input.calls c.args.output.now.calls c.read.new.output.calls c.args.explaining.now.held.items
+    let d = c.args.explaining.now.detector in
+    subst (λ end. HasRun d.sets (content_of d) c.args.explaining.now.asked.word c.args.explaining.now.asked.form c.args.input.now.calls c.read.new.input.calls c.args.output.now.calls c.read.new.output.calls c.args.explaining.now.held.items
     c.read.new.sink.held.items (content_of c.read.new.sink.detector) c.read.new.sink.more end) (sym c.ended.ensures)
     (has_run c.args.input.now.calls c.read.new.input.calls c.args.explaining.now c.read.new.sink c.args.output.now.calls c.read.new.output.calls c.in_ok-stop.stop c.requires.fresh c.in_ok-stop.ensures)
 

@@ -1,16 +1,7 @@
-use Rattle.std.proofs.Common.{refl, sym, ap, arith}
-use Rattle.hg_model.specs.Contents.{Content}
-use Rattle.hg_check.specs.Life.{look_of}
+use Rattle.std.proofs.Common.{sym, subst}
+use Rattle.hg_check.specs.Running.{IsStart}
 use Rattle.hg_check.proofs.explain.explaining.Explaining.new.Goals as goal
 
-pub returns-clause-fresh : goal.returns-clause-fresh
-returns-clause-fresh c = record {
-  ready = record {
-    whole = c.in_ok-detector.ensures.whole;
-    word = c.requires.word;
-    few = omega arith;
-    looks = ap (λ (x : Content). look_of (x.words c.args.asked.word)) (sym c.in_ok-detector.ensures.content);
-  };
-  start = record { content = c.in_ok-detector.ensures.content; sets = c.in_ok-detector.ensures.sets };
-  none = refl;
-}
+pub returns-clause-start : goal.returns-clause-start
+returns-clause-start c =
+    subst IsStart (sym c.behind.ensures.detector) (record { content = c.in_ok-detector.ensures.content; sets = c.in_ok-detector.ensures.sets })

@@ -1,4 +1,4 @@
-use Rattle.std.proofs.Common.{◌≡◌, [], None, Ok, Err, refl, sym, subst, arith}
+use Rattle.std.proofs.Common.{◌≡◌, [], Ok, Err, refl, sym, subst, arith}
 use Rattle.std.specs.Bool.{⊤}
 use Rattle.hg_check.specs.LifeTaking.{ExplainsLines}
 use Rattle.hg_check.proofs.LifeSinking.{takes_printed}
