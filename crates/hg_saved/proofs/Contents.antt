@@ -1,5 +1,5 @@
 -- The content of a detector over the words of a checkpoint.
-use Rattle.std.proofs.Common.{◌≡◌, ◌∙◌, ℕ, Bool, List, Option, Some, None, Result, Ok, Err, length, map, cond, false, refl, sym, ap, subst}
+use Rattle.std.proofs.Common.{◌≡◌, ◌∙◌, ℕ, Bool, List, Option, Some, None, Result, Ok, Err, length, map, cond, false, sym, ap, subst}
 use Rattle.std.specs.Prelude.{IfOk, IfSome, OnOk}
 use Rattle.hg_model.specs.Change.{empty_content}
 use Rattle.hg_model.specs.Contents.{Content}

@@ -2,7 +2,6 @@
 
 ghost use Rattle.std.specs.Prelude.{◌≡◌, ◌<◌, All, IfErr, IfOk, IsTrue, OnOk, false, length};
 ghost use Rattle.hg_cells.specs.Paged.{AreWithin};
-ghost use Rattle.hg_cells.specs.Words.{KeepsLaw};
 ghost use Rattle.hg_pages.specs.Files.{WasRead, disk_of, is_broken, known};
 ghost use Rattle.hg_root.specs.Lawful.{IsLawful};
 ghost use Rattle.hg_root.specs.Roots.{parts_of};

@@ -1,6 +1,6 @@
 //! The newest root of two files.
 
-ghost use Rattle.std.specs.Prelude.{◌≡◌, ◌↔◌, IfErr, IfOk, IfSome, IsTrue};
+ghost use Rattle.std.specs.Prelude.{◌↔◌, IfErr, IfOk, IfSome, IsTrue};
 ghost use Rattle.hg_pages.specs.Files as files;
 ghost use Rattle.hg_root.specs.Checkpoints.{LieWithin};
 ghost use Rattle.hg_root.specs.Finding.{AreWhole, HasNoNewest, IsNewestOf, IsOnlyOf, IsWholeIn, WasRead, root_in};

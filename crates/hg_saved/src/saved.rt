@@ -71,11 +71,10 @@ fn disks_of<D: Disk>(roots: RootPair<D>, file: SlotFile<D>) -> CheckpointDisks<D
 }
 
 /// The detector that has the content of the newest checkpoint of these disks, or that of no events where both roots are closed.
-/// Its words are in memory, and it can follow events. It has all pages that the root names: 3 KiB of memory for each. The disks are
-/// handed back as they were.
+/// Its words are in memory: 3 KiB for each page that the root names. It can follow events. The disks are handed back as they were.
 ///
-/// `Damaged` if the disks have no checkpoint and are not both closed, `DeviceFault` exactly if a device call failed, `OutOfMemory`; no other
-/// refusal. Each page is read once, by one device call, and each root by three at most.
+/// `Damaged` only if the roots are not both closed and the disks have no checkpoint, `DeviceFault` exactly if a device call
+/// failed, or `OutOfMemory`. Each page is read once, by one device call, and each root by three calls at most.
 pub fn saved_detector<D: Disk>(
     alloc: Global,
     disks: CheckpointDisks<D>,

@@ -1,4 +1,4 @@
-use Rattle.std.proofs.Common.{◌≡◌, All, IsTrue, take, length}
+use Rattle.std.proofs.Common.{◌≡◌, All, IsTrue, take}
 use Rattle.hg_pages.specs.Files.{WasRead, disk_of, known}
 use Rattle.hg_checkpoint.specs.NamedPages.{HasSomePage}
 use Rattle.hg_saved.specs.Words.{StaysWithin}

@@ -1,6 +1,6 @@
 use Rattle.std.proofs.Common.{List, ℕ, rules, sym, ap, subst}
 use Rattle.std.specs.Prelude.{OnOk}
-use Rattle.hg_pages.specs.Files.{disk_of, known}
+use Rattle.hg_pages.specs.Files.{disk_of}
 use Rattle.hg_root.specs.Finding.{root_in}
 use Rattle.hg_root.specs.Pairs.{first_bytes, second_bytes}
 use Rattle.hg_root.specs.Roots.{parts_of}
