@@ -1,0 +1,6 @@
+use Rattle.hg_pages.specs.Files.{known}
+use Rattle.hg_saved.proofs.Contents.{each_content}
+use Rattle.hg_saved.proofs.detectors.detector_at.Goals as goal
+
+pub returns-clause-content : goal.returns-clause-content
+returns-clause-content g c honest = each_content c.args.root (known g.D.Disk c.args.file.now) c.in_ok-words.words c.over_words.result c.requires.whole (c.in_ok-words.ensures.cells honest) c.over_words.ensures.shown

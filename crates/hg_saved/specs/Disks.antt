@@ -1,0 +1,51 @@
+-- What the three disks of checkpoints have, and how they are handed back.
+use Rattle.std.specs.Prelude.{◌≡◌, ◌+◌, ℕ, Option, Result, Ok, Err}
+use Rattle.hg_model.specs.Contents.{Content}
+use Rattle.hg_model.specs.declared.verdict.Refusal.{Refusal}
+use Rattle.hg_cells.specs.declared.paged.PagedWords.{PagedWords}
+use Rattle.hg_detect.specs.Shown.{ShownDetector}
+use Rattle.hg_disk.specs.declared.disk.Disk as disk
+use Rattle.hg_root.specs.Checkpoints.{Checkpoint, HasCheckpoint}
+use Rattle.hg_recovery.specs.Answers.{CountedBy}
+use Rattle.hg_saved.specs.declared.saved.CheckpointDisks.{CheckpointDisks}
+use Rattle.hg_saved.specs.Saved.{IsSaved, ReadsPages}
+
+-- a detector with the disks, or a refusal with them
+abbrev pub SavedOr : Type 0 → Type 0
+SavedOr D = Result (ShownDetector PagedWords × CheckpointDisks D) (Refusal × CheckpointDisks D)
+
+-- the disks that are handed back
+abbrev pub disks_in : {D : Type 0} → SavedOr D → CheckpointDisks D
+disks_in (Ok r) = r.1
+disks_in (Err e) = e.1
+
+-- DeviceFault adds one failed call, and any other answer adds none.
+abbrev pub CountsAnswer : {D : Type 0} → SavedOr D → ℕ → ℕ → Type 0
+CountsAnswer (Ok r) old new = new ≡ old
+CountsAnswer (Err e) old new = CountedBy e.0 old new
+
+module _ {D : Type 0} (g : disk.Ghosts D) where
+  -- The disks have this newest checkpoint, or none.
+  abbrev pub HasNewest : Option Checkpoint → CheckpointDisks D → Type 0
+  HasNewest checkpoint disks =
+      HasCheckpoint checkpoint (g.state disks.root0).contents (g.state disks.root1).contents (g.state disks.slots).contents
+
+  -- They have no newest checkpoint, and the roots are not both closed.
+  abbrev pub HasNoneSaved : CheckpointDisks D → Type 0
+  HasNoneSaved disks = (checkpoint : Option Checkpoint) → ¬ HasNewest checkpoint disks
+
+  -- The content is that of the newest checkpoint of the disks, or the empty one.
+  abbrev pub IsSavedOn : CheckpointDisks D → Content → Type 0
+  IsSavedOn disks c = IsSaved (g.state disks.root0).contents (g.state disks.root1).contents (g.state disks.slots).contents c
+
+  -- The slots were read at most once for each page of the newest root.
+  abbrev pub ReadsEachPageOnce : (old new : CheckpointDisks D) → Type 0
+  ReadsEachPageOnce old new = ReadsPages g (g.state old.root0).contents (g.state old.root1).contents old.slots new.slots
+
+  -- how many calls of the disks have failed
+  abbrev pub failures : CheckpointDisks D → ℕ
+  failures disks = g.failures disks.root0 + g.failures disks.root1 + g.failures disks.slots
+
+  -- DeviceFault is told exactly if one call more has failed.
+  abbrev pub CountsSaved : CheckpointDisks D → SavedOr D → Type 0
+  CountsSaved disks result = CountsAnswer result (failures disks) (failures (disks_in result))

@@ -1,0 +1,3 @@
+pub mod Disks
+pub mod Saved
+pub mod Words
