@@ -1,6 +1,6 @@
 -- How the life of a word goes on behind lines that were accepted.
-use Rattle.std.proofs.Common.{◌≡◌, ℕ, suc, ◌+◌, ◌||◌, Bool, true, false, cond, List, [], ◌∷◌, ◌++◌, length, Result, Ok, Err, refl, sym, ap, ◌∙◌, ⊎_elim, arith}
-use Rattle.std.proofs.lemmas.List.{append_assoc}
+use Rattle.std.proofs.Common.{◌≡◌, ℕ, zero, suc, ◌+◌, ◌||◌, Bool, true, false, cond, List, [], ◌∷◌, ◌++◌, length, Result, Ok, Err, refl, sym, ap, ◌∙◌, ⊎_elim, arith}
+use Rattle.std.proofs.lemmas.List.{append-nil, append_assoc}
 use Rattle.hg_model.specs.declared.event.Event.{Event}
 use Rattle.hg_model.specs.declared.verdict.Refusal.{Refusal}
 use Rattle.hg_model.specs.declared.verdict.Refusal.TheVariants.{FullSets}
@@ -15,7 +15,8 @@ use Rattle.hg_wire.specs.declared.reader.Reading.{Reading}
 use Rattle.hg_reading.specs.declared.ending.Ending.TheVariants.{Bad, Ended, Refused}
 use Rattle.hg_check.specs.Checking.{Answered, IsRead, LeadsTo, next_named}
 use Rattle.hg_check.specs.declared.explain.form.Form.{Form}
-use Rattle.hg_check.specs.Life.{accesses, concerns, differs, life, look_of, more_text, told_of}
+use Rattle.hg_streams.specs.Texts.{line_text}
+use Rattle.hg_check.specs.Life.{accesses, concerns, differs, event_line, life, look_of, more_text, told_line, told_of}
 use Rattle.hg_check.specs.LifeLaws.{GoesOn}
 
 not_bad : (line : ℕ) → Ended ≡ Bad line → ⊥
@@ -69,3 +70,46 @@ life_goes_on w form t c d k [] h = record {
   all = λ all none. none;
 }
 life_goes_on w form t c d k (r ∷ rest) h = read_on w form t c d k r.line r.event rest (λ u x j l. life_goes_on w form u x d j rest l) h
+
+-- ---- what was hidden before
+
+-- it only adds to the first count
+abbrev Counts : (ℕ → List ℕ) → Type 0
+Counts text = (first : ℕ) × ((rest : List ℕ) × ((k : ℕ) → text k ≡ more_text (k + first) ++ rest))
+
+end_counted : Counts (λ k. more_text k)
+end_counted = (0, ([], λ k. let same : k + 0 ≡ k = omega arith in sym (ap (λ (n : ℕ). more_text n ++ []) same ∙ append-nil (more_text k))))
+
+told_counted : (meets shown : Bool) (line : List ℕ) (m : ℕ) (later : ℕ → List ℕ) → Counts later
+    → Counts (λ k. (cond {A = List ℕ × ℕ} meets (cond shown (more_text k ++ line, 0) ([], k + m)) ([], k)).0
+    ++ later (cond {A = List ℕ × ℕ} meets (cond shown (more_text k ++ line, 0) ([], k + m)) ([], k)).1)
+told_counted true true line m later h = (
+  0,
+  (
+    line ++ later 0,
+    λ k. let same : k + 0 ≡ k = omega arith in
+        append_assoc (more_text k) line (later 0) ∙ ap (λ (n : ℕ). more_text n ++ (line ++ later 0)) (sym same),
+  ),
+)
+told_counted true false line m later h = (
+  m + h.0,
+  (
+    h.1.0,
+    λ k. let same : k + m + h.0 ≡ k + (m + h.0) = omega arith in
+        h.1.1 (k + m) ∙ ap (λ (n : ℕ). more_text n ++ h.1.0) same,
+  ),
+)
+told_counted false shown line m later h = h
+
+read_counted : (w : ℕ) (form : Form) (c : Content) (n line : ℕ) (event : Result Event LineFault) (rest : List Reading)
+    → ((x : Content) → Counts (λ k. life w form x k n rest)) → Counts (λ k. told_line w form c k line event (λ d j. life w form d j n rest))
+read_counted w form c n line (Err fault) rest on = on c
+read_counted w form c n line (Ok e) rest on =
+    let x = after c (next_named c e) in
+    told_counted (concerns w e) (form.all || differs (look_of (c.words w)) (look_of (x.words w)))
+    (line_text (event_line w form (look_of (c.words w)) (length c.reports) x line e)) (accesses e) (λ k. life w form x k n rest) (on x)
+
+pub hidden_counted : (w : ℕ) (form : Form) (c : Content) (n : ℕ) (lines : List Reading) → Counts (λ k. life w form c k n lines)
+hidden_counted w form c n [] = end_counted
+hidden_counted w form c zero (r ∷ rest) = end_counted
+hidden_counted w form c (suc n) (r ∷ rest) = read_counted w form c n r.line r.event rest (λ x. hidden_counted w form x n rest)

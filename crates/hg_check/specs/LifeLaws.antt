@@ -99,6 +99,11 @@ pub record GoesOn (w : ℕ) (form : Form) (c : Content) (k : ℕ) (lines : List 
 abbrev pub LifeGoesOn : Type 0
 LifeGoesOn = (w : ℕ) (form : Form) (table : Table) (c d : Content) (lines : List Reading) → LeadsTo lines table c d Ended → GoesOn w form c 0 lines d
 
+-- How many accesses were not shown before only adds to the first count of a life: it is that much greater, and the same text is behind it.
+abbrev pub HiddenAreCounted : Type 0
+HiddenAreCounted = (w : ℕ) (form : Form) (c : Content) (n : ℕ) (lines : List Reading)
+    → (first : ℕ) × ((rest : List ℕ) × ((k : ℕ) → life w form c k n lines ≡ more_text (k + first) ++ rest))
+
 -- A race stands on the line of an event where the word is reported at it, while all reports are kept, and on no other line.
 pub record RacesAreTheReports : Type 0 where
   pub told : (w : ℕ) (past : List Event) (e : Event) → is_reported (e ∷ past) w ≡ true → length (all_reports (e ∷ past)) ≤ MOST_REPORTS → (k : ℕ) × (race_in w past e ≡ codes " ; race " ++ decimal k)
