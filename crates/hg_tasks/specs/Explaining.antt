@@ -1,5 +1,5 @@
 -- What is explained of a trace text and of a store.
-use Rattle.std.specs.Prelude.{◌≡◌, ◌⊎◌, ◌≤◌, ℕ, Bool, true, false, Option, None, Some, List, [], ◌++◌, codes, decimal}
+use Rattle.std.specs.Prelude.{◌≡◌, ◌⊎◌, ◌≤◌, ℕ, Bool, true, false, Option, None, Some, [], IsTrue}
 use Rattle.hg_model.specs.declared.verdict.Refusal.{Refusal}
 use Rattle.hg_model.specs.declared.verdict.Refusal.TheVariants.{OutOfMemory}
 use Rattle.hg_options.specs.declared.task.Explaining.{Explaining}
@@ -8,17 +8,25 @@ use Rattle.hg_options.specs.declared.task.Subject.TheVariants.{Word, Race}
 use Rattle.hg_check.specs.declared.explain.form.Form.{Form}
 use Rattle.hg_check.specs.Explaining as word
 use Rattle.hg_check.specs.RaceLife as race
+use Rattle.hg_check.specs.Behind as behind
+use Rattle.hg_cells.specs.declared.paged.PagedWords.{PagedWords}
+use Rattle.hg_detect.specs.declared.detector.Detector.{Detector}
+use Rattle.hg_detect.specs.Memory.{content_of}
+use Rattle.hg_root.specs.Finding.{WasRead}
+use Rattle.hg_saved.specs.Disks.{IsSavedOn}
+use Rattle.hg_saved.specs.Saved.{Stays}
+use Rattle.hg_saved.specs.declared.saved.CheckpointDisks.{CheckpointDisks}
+use Rattle.hg_store.specs.Recovering.{IsRecovered}
+use Rattle.hg_store.specs.declared.devices.Devices.{Devices}
 use Rattle.hg_streams.specs.Faults.{EndsByFault, IsStreamFault, IsTold, TellsNoFault}
 use Rattle.hg_streams.specs.Shown.{Outgoing}
-use Rattle.hg_streams.specs.Texts.{line_text}
-use Rattle.hg_streams.specs.Written.{Took}
 use Rattle.hg_streams.specs.declared.output.Outputs.{Outputs}
 use Rattle.hg_streams.specs.declared.streams.Streams.{Streams}
 use Rattle.hg_disk.specs.declared.disk.Disk as disk
 use Rattle.hg_store.specs.Shown.{ShownStore}
 use Rattle.hg_commands.specs.Races.{FindsRace, PrintsNoRace}
 use Rattle.hg_tasks.specs.declared.events.EventText.{EventText}
-use Rattle.hg_tasks.specs.Taking.{IsFresh}
+use Rattle.hg_tasks.specs.Taking.{IsBehind, IsFresh}
 
 -- how a life is told: whether each access has a line, and whether lines have numbers
 abbrev pub form_of : Bool → Bool → Form
@@ -50,16 +58,6 @@ module _ {D W V : Type 0} (g : disk.Ghosts D) where
       ((status ≡ 2) × PrintsNoRace g number s before.output after.output × (after.faults ≡ before.faults))
       ⊎ ((status ≡ 3) × ((r : Refusal) × IsStreamFault r × IsTold before.faults.calls after.faults.calls r))
 
--- the line that tells up to which event the events are no longer kept
-abbrev pub gone_text : ℕ → List ℕ
-gone_text last = line_text ((codes "events 1 to " ++ decimal last) ++ codes " are no longer kept")
-
--- That was printed and flushed, with status 2; or a fault of the output or of memory was told.
-abbrev pub SaysGone : {W V : Type 0} → ℕ → Outputs W V → Outputs W V → ℕ → Type 0
-SaysGone last before after status =
-    ((status ≡ 2) × Took before.output.calls after.output.calls (gone_text last) × (after.faults ≡ before.faults))
-    ⊎ ((status ≡ 3) × ((r : Refusal) × IsStreamFault r × IsTold before.faults.calls after.faults.calls r))
-
 -- The life of the word at an address was told by the events of a store, of which none was taken before, without numbers of lines; or a fault
 -- ended it.
 pub record ExplainsEvents {D W V : Type 0} (store : ShownStore D) (address : ℕ) (all : Bool) (output : Outgoing W) (faults : Outgoing V) (result : ℕ × Streams (EventText D) W V) : Type 0 where
@@ -71,6 +69,38 @@ pub record ExplainsEvents {D W V : Type 0} (store : ShownStore D) (address : ℕ
   pub told : word.EndsWell result.0 (word.asked_at address (form_of all false)) before result.1
   pub ended : FaultsAre result.0 before result.1
 
+-- So it was from the content of a detector on, by the events of a store behind those that the content counts.
+pub record ExplainsBehind {D W V : Type 0} (detector : Detector PagedWords) (store : ShownStore D) (address : ℕ) (all : Bool) (output : Outgoing W) (faults : Outgoing V) (result : ℕ × Streams (EventText D) W V) : Type 0 where
+  pub before : Streams (EventText D) W V
+  pub next : IsBehind (content_of detector).events store before.input.stream
+  pub unread : before.input.calls ≡ []
+  pub output_is : before.output ≡ output
+  pub faults_are : before.faults ≡ faults
+  pub told : behind.EndsWell result.0 detector (word.asked_at address (form_of all false)) before result.1
+  pub ended : FaultsAre result.0 before result.1
+
+-- The devices are these two journals, and these slots and roots.
+abbrev pub HasDisks : {D : Type 0} → (journal0 journal1 : D) → CheckpointDisks D → Devices D → Type 0
+HasDisks journal0 journal1 disks devices =
+    devices ≡ record { journal0 = journal0; journal1 = journal1; slots = disks.slots; root0 = disks.root0; root1 = disks.root1 }
+
+-- the slots and the roots of devices
+abbrev pub disks_of : {D : Type 0} → Devices D → CheckpointDisks D
+disks_of devices = record { slots = devices.slots; root0 = devices.root0; root1 = devices.root1 }
+
+module _ {D : Type 0} (g : disk.Ghosts D) where
+  -- The detector has the content of the newest checkpoint of the devices, and the store was recovered of them, whose slots and roots were read
+  -- meanwhile.
+  pub record IsSavedAndRecovered (devices : Devices D) (detector : Detector PagedWords) (store : ShownStore D) : Type 0 where
+    pub saved : IsTrue g.is_honest → IsSavedOn g (disks_of devices) (content_of detector)
+    pub disks : CheckpointDisks D
+    pub slots : Stays g devices.slots disks.slots
+    pub first : WasRead g devices.root0 disks.root0
+    pub second : WasRead g devices.root1 disks.root1
+    pub read : Devices D
+    pub are : HasDisks devices.journal0 devices.journal1 disks read
+    pub recovered : IsTrue g.is_honest → IsRecovered g read store
+
 module _ {D W V : Type 0} (g : disk.Ghosts D) where
   -- The life of the word at the address that is asked for was told, by the events of the store, which keeps them from the first one on.
   pub record TellsOfStore (store : ShownStore D) (explaining : Explaining) (before : Outputs W V) (result : ℕ × Outputs W V) : Type 0 where
@@ -81,11 +111,32 @@ module _ {D W V : Type 0} (g : disk.Ghosts D) where
     pub explains : ExplainsEvents store address explaining.all before.output before.faults (result.0, streams)
     pub left : (result.1.output ≡ streams.output) × (result.1.faults ≡ streams.faults)
 
-  -- So it was; or the store keeps no such report, and that was printed; or it no longer keeps its first events, and that was printed; or
+  -- The life of the word at an address was told from the content of the newest checkpoint of the devices on, by the events of the store on them.
+  pub record TellsOfSaved (devices : Devices D) (address : ℕ) (all : Bool) (before : Outputs W V) (result : ℕ × Outputs W V) : Type 0 where
+    pub detector : Detector PagedWords
+    pub store : ShownStore D
+    pub saved : IsSavedAndRecovered g devices detector store
+    pub streams : Streams (EventText D) W V
+    pub explains : ExplainsBehind detector store address all before.output before.faults (result.0, streams)
+    pub left : (result.1.output ≡ streams.output) × (result.1.faults ≡ streams.faults)
+
+  -- So it was; or a fault was told.
+  abbrev pub ExplainsSaved : Devices D → ℕ → Bool → Outputs W V → ℕ × Outputs W V → Type 0
+  ExplainsSaved devices address all before result =
+      TellsOfSaved devices address all before result
+      ⊎ ((result.0 ≡ 3) × ((r : Refusal) × IsTold before.faults.calls result.1.faults.calls r))
+
+  -- The store no longer keeps its first events, and the life of the word at the address that is asked for was told from its newest checkpoint on.
+  abbrev pub TellsOfRest : ShownStore D → Explaining → Outputs W V → ℕ × Outputs W V → Type 0
+  TellsOfRest store explaining before result =
+      (1 ≤ store.turns.base) × ((address : ℕ) × IsAskedFor g explaining.subject store (Some address)
+      × ExplainsSaved store.devices address explaining.all before result)
+
+  -- The life was told from the first event on, or from the newest checkpoint on; or the store keeps no such report, and that was printed; or
   -- memory was refused before, which was told.
   abbrev pub ExplainsStore : ShownStore D → Explaining → Outputs W V → ℕ × Outputs W V → Type 0
   ExplainsStore store explaining before result =
       TellsOfStore store explaining before result
       ⊎ (((number : ℕ) × (explaining.subject ≡ Race number) × FindsRace g number store None × SaysNoRace g number store before result.1 result.0)
-      ⊎ (((1 ≤ store.turns.base) × SaysGone store.turns.base before result.1 result.0)
+      ⊎ (TellsOfRest store explaining before result
       ⊎ ((result.0 ≡ 3) × IsTold before.faults.calls result.1.faults.calls OutOfMemory)))

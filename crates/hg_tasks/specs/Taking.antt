@@ -9,11 +9,15 @@ use Rattle.hg_tasks.specs.Lines.{lines}
 use Rattle.hg_tasks.specs.declared.events.EventText.{EventText}
 use Rattle.hg_tasks.specs.declared.events.TheConstants.{PIECE}
 
--- Nothing was taken of the store: its first event is the next one.
-pub record IsFresh {D : Type 0} (store : ShownStore D) (text : EventText D) : Type 0 where
+-- Nothing was taken of the store: the event behind the one numbered `gone` is the next one.
+pub record IsBehind {D : Type 0} (gone : ℕ) (store : ShownStore D) (text : EventText D) : Type 0 where
   pub of : text.store ≡ store
-  pub next : text.next ≡ 1
+  pub next : text.next ≡ min (gone + 1) (2 ^ 64 - 1)
   pub empty : string_bytes text.text ≡ []
+
+-- Its first event is the next one.
+abbrev pub IsFresh : {D : Type 0} → ShownStore D → EventText D → Type 0
+IsFresh store text = IsBehind 0 store text
 
 -- Events were taken, and the next ones begin behind them. They are those that the store's journal has there, in their order. Their lines are
 -- what is read now, from the first byte on.

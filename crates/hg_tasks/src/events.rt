@@ -95,16 +95,23 @@ fn kind_of(refusal: Refusal) -> ErrorKind
 }
 
 impl<D: Disk> EventText<D> {
-    ghost use Rattle.hg_tasks.specs.Taking.{HasGiven, HasTaken, IsFresh};
+    ghost use Rattle.hg_tasks.specs.Taking.{HasGiven, HasTaken, IsBehind, IsFresh};
 
     /// For a store of which no event was taken yet.
     pub fn new(alloc: Global, store: Store<D>) -> EventText<D>
         ensures { IsFresh store result }
     {
+        EventText::behind(alloc, store, 0)
+    }
+
+    /// For a store of whose events those behind the one with this number are taken.
+    pub fn behind(alloc: Global, store: Store<D>, gone: u64) -> EventText<D>
+        ensures { IsBehind gone store result }
+    {
         EventText {
             alloc,
             store,
-            next: 1,
+            next: gone.saturating_add(1),
             text: String::new(alloc),
             used: 0,
         }

@@ -1,11 +1,11 @@
 //! Commands on the store in a directory.
 
-ghost use Rattle.std.specs.Prelude.{◌≡◌, IfErr, IfOk, OnOk, false};
-ghost use Rattle.hg_streams.specs.Faults.{IsStreamFault};
-ghost use Rattle.hg_streams.specs.Written.{Took};
+ghost use Rattle.std.specs.Prelude.{◌≡◌, IfOk, false};
+ghost use Rattle.hg_detect.specs.Memory.{IsWhole};
+ghost use Rattle.hg_check.specs.Running.{HasRoom};
 ghost use Rattle.hg_store.specs.Limits.{IsFrameCount};
 ghost use Rattle.hg_tasks.specs.Exits.{ListsAndExits};
-ghost use Rattle.hg_tasks.specs.Explaining.{ExplainsEvents, ExplainsStore, SaysGone, SaysNoRace, gone_text};
+ghost use Rattle.hg_tasks.specs.Explaining.{ExplainsBehind, ExplainsEvents, ExplainsSaved, ExplainsStore, HasDisks, IsSavedAndRecovered, SaysNoRace};
 
 use crate::directory::{OpenMode, look_at_directory, make_directory, open_directory, open_former};
 use crate::events::EventText;
@@ -14,25 +14,26 @@ use crate::look::LookDisk;
 use crate::migrating::migrate_and_print;
 use crate::status::exit_status;
 use crate::streams::{noted_outputs, noted_streams, plain_outputs, plain_streams};
+use hg_check::explain::behind::explain_behind;
 use hg_check::explain::commands::explain;
 use hg_check::explain::form::Form;
-use hg_check::explain::pieces::{hold, hold_number};
 use hg_commands::creating::create_store;
 use hg_commands::feeding::feed;
 use hg_commands::listing::{Listed, list_store};
 use hg_commands::races::{address_of_race, print_no_race};
 use hg_commands::settings::FeedSettings;
+use hg_detect::memory::MemoryDetector;
 use hg_disk::{Disk, FileDisk};
+use hg_model::limits::MOST_EVENTS;
 use hg_model::verdict::Refusal;
 use hg_options::limits::DEFAULT_FRAMES;
 use hg_options::task::{ErrorExitcode, Explaining, Frames, Subject};
+use hg_saved::{CheckpointDisks, saved_detector};
 use hg_store::devices::{Caps, Devices};
 use hg_store::store::Store;
-use hg_streams::holding::end_line;
 use hg_streams::input::Input;
 use hg_streams::listing::Listing;
 use hg_streams::output::{Output, Outputs};
-use hg_streams::printing::print_now;
 use hg_streams::streams::Streams;
 use hg_streams::telling::end_by_fault;
 use hg_verbose::lines::Lines;
@@ -41,8 +42,8 @@ use std::io::Write;
 use std::marker::Sync;
 use std::thread::Threads;
 
-/// The status where a store has no such report, or no longer has all events.
-const NOT_THERE: u8 = 2;
+/// The status where a store has no such report.
+const NO_RACE: u8 = 2;
 
 /// Makes the store.
 pub fn create_in(rt: &HostRuntime, directory: &str) -> u8 {
@@ -190,40 +191,120 @@ fn say_no_race<D: Disk, W: Write, V: Write>(
     ensures { SaysNoRace ⟦<D as Disk>⟧ number store.now outputs.old outputs.new result }
 {
     match print_no_race(alloc, number, store, &mut outputs.output) {
-        Ok(()) => NOT_THERE,
+        Ok(()) => NO_RACE,
         Err(refusal) => end_by_fault(refusal, &mut outputs.faults),
     }
 }
 
-/// The line that tells up to which event a store no longer keeps its events.
-fn gone_line(alloc: Global, last: u64) -> Result<Vec<u8>, Refusal>
-    ensures text { IfOk result (λ line. line.items ≡ gone_text last) }
-    ensures cause { IfErr result (λ r. r ≡ Refusal.OutOfMemory) }
+/// Prints the life of the word at an address from the content of a detector on, by the events of a store that come behind it. They have no
+/// lines. Answers the status and the streams.
+fn explain_behind_events<D: Disk, W: Write, V: Write>(
+    alloc: Global,
+    detector: MemoryDetector,
+    store: Store<D>,
+    address: u64,
+    all: bool,
+    output: Output<W>,
+    faults: Output<V>,
+) -> (u8, Streams<EventText<D>, W, V>)
+    requires whole { IsWhole detector }
+    requires room { HasRoom detector }
+    ensures { ExplainsBehind detector store address all output faults result }
 {
-    let mut line = Vec::new(alloc);
-    hold_number(b"events 1 to ", last, &mut line)?;
-    hold(b" are no longer kept", &mut line)?;
-    end_line(&mut line)?;
-    Ok(line)
+    let form = Form { all, lines: false };
+    let gone = detector.state().events();
+    let mut streams = Streams {
+        input: Input::new(EventText::behind(alloc, store, gone)),
+        output,
+        faults,
+    };
+    let status = explain_behind(alloc, detector, address, form, &mut streams);
+    (status, streams)
 }
 
-/// Prints up to which event a store no longer keeps its events.
-fn print_gone<W: Write>(alloc: Global, last: u64, output: &mut Output<W>) -> Result<(), Refusal>
-    ensures printed { OnOk result (Took output.old.calls output.new.calls (gone_text last)) }
-    ensures cause { IfErr result IsStreamFault }
+/// The devices of a store, of which those with checkpoints are these.
+fn devices_with<D: Disk>(journal0: D, journal1: D, disks: CheckpointDisks<D>) -> Devices<D>
+    ensures { HasDisks journal0 journal1 disks result }
 {
-    let line = gone_line(alloc, last)?;
-    print_now(line.as_slice(), output)
-}
-
-/// Prints up to which event a store no longer keeps its events, and answers the status.
-fn say_gone<W: Write, V: Write>(alloc: Global, last: u64, outputs: &mut Outputs<W, V>) -> u8
-    ensures { SaysGone last outputs.old outputs.new result }
-{
-    match print_gone(alloc, last, &mut outputs.output) {
-        Ok(()) => NOT_THERE,
-        Err(refusal) => end_by_fault(refusal, &mut outputs.faults),
+    let CheckpointDisks {
+        slots,
+        root0,
+        root1,
+    } = disks;
+    Devices {
+        journal0,
+        journal1,
+        slots,
+        root0,
+        root1,
     }
+}
+
+/// The content of the newest checkpoint of a store's devices, as a detector in memory, and the store, recovered.
+fn saved_and_store<D: Disk + Drop>(
+    alloc: Global,
+    devices: Devices<D>,
+) -> Result<(MemoryDetector, Store<D>), Refusal>
+    ensures saved { IfOk result (λ it. IsSavedAndRecovered ⟦<D as Disk>⟧ devices it.0 it.1) }
+    ensures whole { IfOk result (λ it. IsWhole it.0) }
+{
+    let Devices {
+        journal0,
+        journal1,
+        slots,
+        root0,
+        root1,
+    } = devices;
+    let disks = CheckpointDisks {
+        slots,
+        root0,
+        root1,
+    };
+    let (detector, disks) = match saved_detector(alloc, disks) {
+        Ok(found) => found,
+        Err((refusal, _)) => return Err(refusal),
+    };
+    let devices = devices_with(journal0, journal1, disks);
+    match Store::recover(alloc, devices, DEFAULT_FRAMES, Caps::profile()) {
+        Ok(store) => Ok((detector, store)),
+        Err((refusal, _)) => Err(refusal),
+    }
+}
+
+/// Prints the life of the word at an address by the events that a store with these devices still keeps, from the state on that its newest
+/// checkpoint has. Answers the status and the outputs.
+fn explain_saved<D: Disk + Drop, W: Write, V: Write>(
+    alloc: Global,
+    devices: Devices<D>,
+    address: u64,
+    all: bool,
+    outputs: Outputs<W, V>,
+) -> (u8, Outputs<W, V>)
+    ensures { ExplainsSaved ⟦<D as Disk>⟧ devices address all outputs result }
+{
+    let mut outputs = outputs;
+    let (detector, store) = match saved_and_store(alloc, devices) {
+        Ok(found) => found,
+        Err(refusal) => {
+            let status = end_by_fault(refusal, &mut outputs.faults);
+            return (status, outputs);
+        }
+    };
+    // Of a content that devices have, the numbers of a source end far below that.
+    if detector.last(0) > MOST_EVENTS {
+        let status = end_by_fault(Refusal::Damaged, &mut outputs.faults);
+        return (status, outputs);
+    }
+    let Outputs { output, faults } = outputs;
+    let (status, streams) = explain_behind_events(
+        alloc, detector, store, address, all, output, faults,
+    );
+    let Streams {
+        input: _,
+        output,
+        faults,
+    } = streams;
+    (status, Outputs { output, faults })
 }
 
 /// The number of the last event that a store no longer keeps, 0 where it keeps all.
@@ -237,8 +318,8 @@ fn gone_of<D: Disk>(store: &Store<D>) -> u64
     }
 }
 
-/// Prints the life of a word by the events of a store, or that there is no such report, or that the first events are no longer kept. Answers
-/// the status and the outputs.
+/// Prints the life of a word by the events of a store, from the first one on or from the newest checkpoint on, where that gave up the first
+/// ones; or that there is no such report. Answers the status and the outputs.
 fn explain_store<D: Disk + Drop, W: Write, V: Write>(
     alloc: Global,
     store: Store<D>,
@@ -249,11 +330,6 @@ fn explain_store<D: Disk + Drop, W: Write, V: Write>(
     ensures { ExplainsStore ⟦<D as Disk>⟧ store explaining outputs result }
 {
     let mut outputs = outputs;
-    let gone = gone_of(&store);
-    if gone > 0 {
-        let status = say_gone(alloc, gone, &mut outputs);
-        return (status, outputs);
-    }
     let address = match explaining.subject {
         Subject::Word { address } => address,
         Subject::Race { number } => match address_of_race(alloc, &store, number) {
@@ -268,6 +344,15 @@ fn explain_store<D: Disk + Drop, W: Write, V: Write>(
             }
         },
     };
+    if gone_of(&store) > 0 {
+        return explain_saved(
+            alloc,
+            store.into_devices(),
+            address,
+            explaining.all,
+            outputs,
+        );
+    }
     let Outputs { output, faults } = outputs;
     let (status, streams) = explain_events(alloc, store, address, explaining.all, output, faults);
     let Streams {
