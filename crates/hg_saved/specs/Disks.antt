@@ -28,7 +28,8 @@ module _ {D : Type 0} (g : disk.Ghosts D) where
   -- The disks have this newest checkpoint, or none.
   abbrev pub HasNewest : Option Checkpoint → CheckpointDisks D → Type 0
   HasNewest checkpoint disks =
-      HasCheckpoint checkpoint (g.state disks.root0).contents (g.state disks.root1).contents (g.state disks.slots).contents
+      HasCheckpoint checkpoint (g.state disks.root0).contents (g.state disks.root1).contents
+      (g.state disks.slots).contents
 
   -- They have no newest checkpoint, and the roots are not both closed.
   abbrev pub HasNoneSaved : CheckpointDisks D → Type 0
@@ -36,7 +37,8 @@ module _ {D : Type 0} (g : disk.Ghosts D) where
 
   -- The content is that of the newest checkpoint of the disks, or the empty one.
   abbrev pub IsSavedOn : CheckpointDisks D → Content → Type 0
-  IsSavedOn disks c = IsSaved (g.state disks.root0).contents (g.state disks.root1).contents (g.state disks.slots).contents c
+  IsSavedOn disks c =
+      IsSaved (g.state disks.root0).contents (g.state disks.root1).contents (g.state disks.slots).contents c
 
   -- The slots were read at most once for each page of the newest root.
   abbrev pub ReadsEachPageOnce : (old new : CheckpointDisks D) → Type 0

@@ -20,8 +20,8 @@ use Rattle.hg_root.specs.declared.root.Root.{Root}
 use Rattle.hg_contents.specs.Images.{content_of, start_of}
 use Rattle.hg_recovery.specs.Answers.{CountsFailures}
 
--- The root files and the slots have a newest checkpoint, or none, and the content is the one from which events go on behind
--- it: that of the checkpoint, or the empty one. It is that of no other.
+-- The root files and the slots have a newest checkpoint, or none, and the content is the one from which events go on
+-- behind it: that of the checkpoint, or the empty one. It is that of each checkpoint that they have.
 pub record IsSaved (one other slots : List ℕ) (c : Content) : Type 0 where
   pub checkpoint : Option Checkpoint
   pub stands : HasCheckpoint checkpoint one other slots
@@ -67,4 +67,5 @@ module _ {D : Type 0} (g : disk.Ghosts D) where
   -- DeviceFault is told exactly if a call of the pair or of the file has failed.
   abbrev pub CountsBoth : {T : Type 0} → RootPair D → SlotFile D → RootPair D → SlotFile D → Result T Refusal → Type 0
   CountsBoth roots file roots' file' result =
-      CountsFailures result (pairs.failures g roots + g.failures (files.disk_of file)) (pairs.failures g roots' + g.failures (files.disk_of file'))
+      CountsFailures result (pairs.failures g roots + g.failures (files.disk_of file))
+      (pairs.failures g roots' + g.failures (files.disk_of file'))

@@ -26,12 +26,14 @@ TakesPage segments sets slots named old new =
 
 -- Each of the pages stands in its slot, with these cells.
 abbrev pub HaveCells : ℕ → List (List ℕ) → (slots : List ℕ) → List PageSlot → (ℕ → List Cell) → Type 0
-HaveCells segments sets slots pages cells_of = All (λ p. HasPage segments sets p.slot p.page (cells_of p.page) slots) pages
+HaveCells segments sets slots pages cells_of =
+    All (λ p. HasPage segments sets p.slot p.page (cells_of p.page) slots) pages
 
 -- The words of the pages have these cells, and other words what they had.
 abbrev pub PutsPages : List PageSlot → (ℕ → List Cell) → PagedWords → PagedWords → Type 0
 PutsPages pages cells_of old new =
-    (w : ℕ) → cell_in new w ≡ (if has_slot pages (w / 256) then get_or (cells_of (w / 256)) (w % 256) New else cell_in old w)
+    (w : ℕ)
+    → cell_in new w ≡ (if has_slot pages (w / 256) then get_or (cells_of (w / 256)) (w % 256) New else cell_in old w)
 
 -- The words of the pages have the cells that their slots have, and other words what they had.
 abbrev pub TakesPages : ℕ → List (List ℕ) → (slots : List ℕ) → List PageSlot → PagedWords → PagedWords → Type 0
@@ -40,4 +42,5 @@ TakesPages segments sets slots pages old new =
 
 -- The words are those of each checkpoint with these parts whose pages the slots have.
 abbrev pub HasWordsOf : Parts → (slots : List ℕ) → PagedWords → Type 0
-HasWordsOf root slots words = (c : Checkpoint) → c.root ≡ root → HasPages slots c → (w : ℕ) → cell_in words w ≡ cell_of c w
+HasWordsOf root slots words =
+    (c : Checkpoint) → c.root ≡ root → HasPages slots c → (w : ℕ) → cell_in words w ≡ cell_of c w

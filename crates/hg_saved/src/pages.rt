@@ -91,7 +91,8 @@ pub(crate) fn words_of<D: Disk>(
 ) -> Result<PagedWords, Refusal>
     requires { IsLawful (parts_of root.now) }
     ensures cells { IsTrue D.is_honest → IfOk result (HasWordsOf (parts_of root.now) (known ⟦<D as Disk>⟧ file.old)) }
-    ensures within { IfOk result (λ words. AreWithin words (length root.now.segments.items) (length root.now.sets.sets)) }
+    ensures within { IfOk result (λ words.
+        AreWithin words (length root.now.segments.items) (length root.now.sets.sets)) }
     ensures stands { IsTrue D.is_honest → OnOk result (HasPagesOf (parts_of root.now) (known ⟦<D as Disk>⟧ file.old)) }
     ensures damaged { IsTrue D.is_honest →
         OnDamaged result (¬ HasPagesOf (parts_of root.now) (known ⟦<D as Disk>⟧ file.old)) }

@@ -39,7 +39,8 @@ fn saved_in<D: Disk>(
 ) -> Result<MemoryDetector, Refusal>
     requires roots { IsWorking roots.old }
     requires file { files.is_broken file.old ≡ false }
-    ensures content { IsTrue D.is_honest → IfOk result (λ d. IsSavedIn ⟦<D as Disk>⟧ roots.old file.old (content_of d)) }
+    ensures content { IsTrue D.is_honest →
+        IfOk result (λ d. IsSavedIn ⟦<D as Disk>⟧ roots.old file.old (content_of d)) }
     ensures whole { IfOk result IsWhole }
     ensures limit { IfOk result (λ d. d.sets.limit ≡ MOST_SETS) }
     ensures damaged { IsTrue D.is_honest → OnDamaged result (HasNoneIn ⟦<D as Disk>⟧ roots.old file.old) }
@@ -70,11 +71,12 @@ fn disks_of<D: Disk>(roots: RootPair<D>, file: SlotFile<D>) -> CheckpointDisks<D
     }
 }
 
-/// The detector that has the content of the newest checkpoint of these disks, or that of no events where both roots are closed.
-/// Its words are in memory: 3 KiB for each page that the root names. It can follow events. The disks are handed back as they were.
+/// The detector that has the content of the newest checkpoint of these disks, or that of no events where both roots are
+/// closed. It can follow events. Its words are in memory: 3 KiB for each page that the root names. The disks are handed
+/// back as they were.
 ///
-/// `Damaged` only if the roots are not both closed and the disks have no checkpoint, `DeviceFault` exactly if a device call
-/// failed, or `OutOfMemory`. Each page is read once, by one device call, and each root by three calls at most.
+/// `Damaged` only if the roots are not both closed and the disks have no checkpoint, `DeviceFault` exactly if a device
+/// call failed, or `OutOfMemory`. Each page is read once, by one device call, and each root by three calls at most.
 pub fn saved_detector<D: Disk>(
     alloc: Global,
     disks: CheckpointDisks<D>,
@@ -82,7 +84,8 @@ pub fn saved_detector<D: Disk>(
     ensures content { IsTrue D.is_honest → IfOk result (λ r. IsSavedOn ⟦<D as Disk>⟧ disks (content_of r.0)) }
     ensures whole { IfOk result (λ r. IsWhole r.0) }
     ensures limit { IfOk result (λ r. r.0.sets.limit ≡ MOST_SETS) }
-    ensures damaged { IsTrue D.is_honest → IfErr result (λ e. e.0 ≡ Refusal.Damaged → HasNoneSaved ⟦<D as Disk>⟧ disks) }
+    ensures damaged { IsTrue D.is_honest →
+        IfErr result (λ e. e.0 ≡ Refusal.Damaged → HasNoneSaved ⟦<D as Disk>⟧ disks) }
     ensures refusal { IfErr result (λ e. IsOfRoots e.0) }
     ensures slots { Stays ⟦<D as Disk>⟧ disks.slots (disks_in result).slots }
     ensures first { WasRead ⟦<D as Disk>⟧ disks.root0 (disks_in result).root0 }
