@@ -43,7 +43,7 @@ pub enum Point {
     Put,
     /// No page waits any more, and the flusher is about to make the pages durable.
     BeforeSeal,
-    /// The flusher opened the root.
+    /// The flusher opened the root, and gave up the events that no root needs any more.
     RootOpen,
     /// The system had no room for a connection that waits: no descriptor, or no memory. It is listened on.
     NoRoom,
