@@ -1,5 +1,5 @@
 -- What a crash may leave over several calls.
-use Rattle.std.proofs.Common.{◌≡◌, ◌⊎◌, inl, inr, ℕ, Result, Ok, Err, OnOk, OnErr, List, [], ◌∷◌, ◌++◌, refl, sym, ◌∙◌, ap, subst}
+use Rattle.std.proofs.Common.{IsTrue, ◌≡◌, ◌⊎◌, inl, inr, ℕ, Result, Ok, Err, OnOk, OnErr, List, [], ◌∷◌, ◌++◌, refl, sym, ◌∙◌, ap, subst}
 use Rattle.std.proofs.lemmas.List.{append_assoc, append_cancel_right}
 use Rattle.hg_disk.specs.State.{DiskState, IsImage, SameImages, after_write, after_cut, after_sync}
 use Rattle.hg_disk.specs.Kept.{image_of_write, image_of_cut}
@@ -56,15 +56,16 @@ newest_leaves P old earlier (s ∷ later) first each = each.0
 module _ {D : Type 0} (g : disk.Ghosts D) where
   -- before the first call
   pub started : (d : D) (P : List ℕ → Type 0) → Leaves P (g.state d) → LeavesOnly g d d P
-  started d P now = record { later = []; has_gone = refl; first = now; each = tt }
+  started d P now = record { later = []; has_gone = refl; first = now; each = tt; kept = λ were. were }
 
   -- one call
-  pub one_call : (old new : D) (P : List ℕ → Type 0) → g.past new ≡ (g.state old ∷ g.past old) → Leaves P (g.state old) → Leaves P (g.state new) → LeavesOnly g old new P
-  one_call old new P clock before after = record {
+  pub one_call : (old new : D) (P : List ℕ → Type 0) → g.past new ≡ (g.state old ∷ g.past old) → (IsTrue (g.reads_were_true new) → IsTrue (g.reads_were_true old)) → Leaves P (g.state old) → Leaves P (g.state new) → LeavesOnly g old new P
+  one_call old new P clock kept before after = record {
     later = g.state new ∷ [];
     has_gone = ap (λ (past : List DiskState). g.state new ∷ past) clock;
     first = before;
     each = (after, tt);
+    kept = kept;
   }
 
   -- two runs of calls, one after the other
@@ -74,6 +75,7 @@ module _ {D : Type 0} (g : disk.Ghosts D) where
     has_gone = two.has_gone ∙ ap (λ (past : List DiskState). two.later ++ past) one.has_gone ∙ sym (append_assoc two.later one.later (history g old));
     first = one.first;
     each = each-append P two.later one.later two.each one.each;
+    kept = λ were. one.kept (two.kept were);
   }
 
   pub weaker : (old new : D) (P Q : List ℕ → Type 0) → LeavesOnly g old new P → ((image : List ℕ) → P image → Q image) → LeavesOnly g old new Q
@@ -82,6 +84,7 @@ module _ {D : Type 0} (g : disk.Ghosts D) where
     has_gone = has.has_gone;
     first = λ image is. implies image (has.first image is);
     each = each_weaker P Q has.later implies has.each;
+    kept = has.kept;
   }
 
   -- what a crash may leave after the last call
@@ -93,27 +96,27 @@ module _ {D : Type 0} (g : disk.Ghosts D) where
 
   -- a write: what it may leave torn
   pub write_leaves : {T E : Type 0} (old new : D) (at : ℕ) (bytes : List ℕ) (result : Result T E) → OnOk result (g.state new ≡ after_write at bytes (g.state old))
-      → OnErr result (SameImages (after_write at bytes (g.state old)) (g.state new)) → g.past new ≡ (g.state old ∷ g.past old) → LeavesOnly g old new (IsImage (after_write at bytes (g.state old)))
-  write_leaves old new at bytes result ok err clock =
-      one_call old new (IsImage (after_write at bytes (g.state old))) clock (image_of_write at bytes (g.state old))
+      → OnErr result (SameImages (after_write at bytes (g.state old)) (g.state new)) → g.past new ≡ (g.state old ∷ g.past old) → (IsTrue (g.reads_were_true new) → IsTrue (g.reads_were_true old)) → LeavesOnly g old new (IsImage (after_write at bytes (g.state old)))
+  write_leaves old new at bytes result ok err clock kept =
+      one_call old new (IsImage (after_write at bytes (g.state old))) clock kept (image_of_write at bytes (g.state old))
       (λ image. same_images (after_write at bytes (g.state old)) (g.state new) image (as_counted result _ _ ok err))
 
   -- a cut
   pub cut_leaves : {T E : Type 0} (old new : D) (to : ℕ) (result : Result T E) → OnOk result (g.state new ≡ after_cut to (g.state old))
-      → OnErr result (SameImages (after_cut to (g.state old)) (g.state new)) → g.past new ≡ (g.state old ∷ g.past old) → LeavesOnly g old new (IsImage (after_cut to (g.state old)))
-  cut_leaves old new to result ok err clock =
-      one_call old new (IsImage (after_cut to (g.state old))) clock (image_of_cut to (g.state old))
+      → OnErr result (SameImages (after_cut to (g.state old)) (g.state new)) → g.past new ≡ (g.state old ∷ g.past old) → (IsTrue (g.reads_were_true new) → IsTrue (g.reads_were_true old)) → LeavesOnly g old new (IsImage (after_cut to (g.state old)))
+  cut_leaves old new to result ok err clock kept =
+      one_call old new (IsImage (after_cut to (g.state old))) clock kept (image_of_cut to (g.state old))
       (λ image. same_images (after_cut to (g.state old)) (g.state new) image (as_counted result _ _ ok err))
 
   -- a sync: it adds no image
   pub sync_leaves : {T E : Type 0} (old new : D) (result : Result T E) → ((d : D) → IsImage (g.state d) (g.state d).contents) → OnOk result (g.state new ≡ after_sync (g.state old))
-      → OnErr result (SameImages (g.state old) (g.state new)) → g.past new ≡ (g.state old ∷ g.past old) → LeavesOnly g old new (IsImage (g.state old))
-  sync_leaves old new result has_its_bytes ok err clock =
-      one_call old new (IsImage (g.state old)) clock (λ image is. is) (after_a_sync result (g.state old) (g.state new) (has_its_bytes old) ok err)
+      → OnErr result (SameImages (g.state old) (g.state new)) → g.past new ≡ (g.state old ∷ g.past old) → (IsTrue (g.reads_were_true new) → IsTrue (g.reads_were_true old)) → LeavesOnly g old new (IsImage (g.state old))
+  sync_leaves old new result has_its_bytes ok err clock kept =
+      one_call old new (IsImage (g.state old)) clock kept (λ image is. is) (after_a_sync result (g.state old) (g.state new) (has_its_bytes old) ok err)
 
   -- a read
-  pub read_leaves : (old new : D) → g.state new ≡ g.state old → g.past new ≡ (g.state old ∷ g.past old) → LeavesOnly g old new (IsImage (g.state old))
-  read_leaves old new same clock = one_call old new (IsImage (g.state old)) clock (λ image is. is) (λ image is. subst (λ (s : DiskState). IsImage s image) same is)
+  pub read_leaves : (old new : D) → g.state new ≡ g.state old → g.past new ≡ (g.state old ∷ g.past old) → (IsTrue (g.reads_were_true new) → IsTrue (g.reads_were_true old)) → LeavesOnly g old new (IsImage (g.state old))
+  read_leaves old new same clock kept = one_call old new (IsImage (g.state old)) clock kept (λ image is. is) (λ image is. subst (λ (s : DiskState). IsImage s image) same is)
 
   -- the states that a disk went through are settled by its clock
   gone_once : (old new : D) (first second : List DiskState) → HasGone g old new first → HasGone g old new second → first ≡ second
@@ -128,7 +131,7 @@ module _ {D : Type 0} (g : disk.Ghosts D) where
 
   -- a disk that was not called
   pub stays : (d : D) → GoesOn g d d
-  stays d = ([], refl)
+  stays d = ([], refl, λ were. were)
 
   pub still : (d : D) (bytes : List ℕ) → MayLeave g d d bytes → IsImage (g.state d) bytes
   still d bytes may = leaves may.among where
@@ -138,9 +141,9 @@ module _ {D : Type 0} (g : disk.Ghosts D) where
 
   -- what is left at the end is left meanwhile
   pub left_at_end : (old new : D) (bytes : List ℕ) → GoesOn g old new → IsImage (g.state new) bytes → MayLeave g old new bytes
-  left_at_end old new bytes ([], gone) is =
+  left_at_end old new bytes ([], gone, kept) is =
       let same : g.state new ≡ g.state old = cc in
       record { later = []; has_gone = gone; among = inl (subst (λ (s : DiskState). IsImage s bytes) same is) }
-  left_at_end old new bytes (s ∷ earlier, gone) is =
+  left_at_end old new bytes (s ∷ earlier, gone, kept) is =
       let same : g.state new ≡ s = cc in
       record { later = s ∷ earlier; has_gone = gone; among = inr (inl (subst (λ (t : DiskState). IsImage t bytes) same is)) }

@@ -110,6 +110,10 @@ module _ {D : Type 0} (g : disk.Ghosts D) where
   abbrev pub fuse_failures : FuseDisk D → ℕ
   fuse_failures f = g.failures f.inner + refusals_in f.history.events
 
+  -- Each read that it passed on was true.
+  abbrev pub fuse_reads_were_true : FuseDisk D → Bool
+  fuse_reads_were_true f = g.reads_were_true f.inner
+
   -- It refused the call, or it passed the call on and gave the inner disk's answer.
   pub record Burns {T E : Type 0} (old new : FuseDisk D) (result : Result T E) : Type 0 where
     pub refused : is_next (calls_left old) ≡ true → IsErr result × (inner_of new ≡ inner_of old)

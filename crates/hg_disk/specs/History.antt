@@ -1,5 +1,6 @@
 -- The states that a disk goes through under its calls.
-use Rattle.std.specs.Prelude.{◌≡◌, ◌==◌, ℕ, ◌+◌, min, if◌then◌else◌, Bool, true, false, List, [], ◌∷◌, length, Option, is_none}
+use Rattle.std.specs.Prelude.{◌≡◌, ◌==◌, ℕ, ◌+◌, min, ◌&&◌, if◌then◌else◌, Bool, true, false, List, [], ◌∷◌, length, take, drop, Option, is_none}
+use Rattle.std.specs.Str.{bytes_eq}
 use Rattle.hg_disk.specs.State.{DiskState, settled, after_write, after_cut, after_sync}
 use Rattle.hg_disk.specs.State.Change.{Written, CutTo}
 use Rattle.hg_disk.specs.Event.{Event}
@@ -52,3 +53,17 @@ failures_in (e ∷ earlier) = if is_failure e.told.answer then failures_in earli
 -- there is an error exactly if a call has failed
 abbrev pub KeepsError : {E : Type 0} → Option E → List Event → Type 0
 KeepsError error events = is_none error ≡ (failures_in events == 0)
+
+-- whether a read that answered Ok gave the bytes of the state
+abbrev pub is_true_of : Call → Answer → List ℕ → DiskState → Bool
+is_true_of (Read at) Done bytes s = bytes_eq bytes (take (length bytes) (drop at s.contents))
+is_true_of (Read at) Failed bytes s = true
+is_true_of (Read at) Refused bytes s = true
+is_true_of (Write at len) answer bytes s = true
+is_true_of (Cut to) answer bytes s = true
+is_true_of Sync answer bytes s = true
+
+-- Whether each read of a disk that was made with the bytes `start`, if it answered Ok, gave the bytes of the state of its moment.
+abbrev pub reads_were_true : List ℕ → List Event → Bool
+reads_were_true start [] = true
+reads_were_true start (e ∷ earlier) = is_true_of e.told.call e.told.answer e.bytes (replay start earlier) && reads_were_true start earlier

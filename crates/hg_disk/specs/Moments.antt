@@ -1,5 +1,5 @@
 -- What a crash may leave from one moment of a disk to another.
-use Rattle.std.specs.Prelude.{◌-◌, length, get_or, ◌≡◌, ◌≤◌, ◌⊎◌, ℕ, List, [], ◌∷◌, ◌++◌}
+use Rattle.std.specs.Prelude.{IsTrue, ◌-◌, length, get_or, ◌≡◌, ◌≤◌, ◌⊎◌, ℕ, List, [], ◌∷◌, ◌++◌}
 use Rattle.hg_disk.specs.State.{DiskState, IsImage, after_write}
 use Rattle.hg_disk.specs.declared.disk.Disk as disk
 
@@ -34,12 +34,14 @@ module _ {D : Type 0} (g : disk.Ghosts D) where
   abbrev pub HasGone : D → D → List DiskState → Type 0
   HasGone old new later = history new ≡ later ++ history old
 
-  -- A crash at any moment from `old` to `new`, both included, leaves bytes that have P.
+  -- A crash at any moment from `old` to `new`, both included, leaves bytes that have P. If the reads up to `new` were true, so
+  -- were those up to `old`.
   pub record LeavesOnly (old new : D) (P : List ℕ → Type 0) : Type 0 where
     pub later : List DiskState
     pub has_gone : HasGone old new later
     pub first : Leaves P (g.state old)
     pub each : EachLeaves P later
+    pub kept : IsTrue (g.reads_were_true new) → IsTrue (g.reads_were_true old)
 
   -- A crash at any moment from `old` to `new` leaves what it might have left at the first one.
   abbrev pub AddsNoImage : (old new : D) → Type 0
@@ -55,7 +57,7 @@ module _ {D : Type 0} (g : disk.Ghosts D) where
 
   -- `new` is the disk `old` after some calls, or after none.
   abbrev pub GoesOn : D → D → Type 0
-  GoesOn old new = (later : List DiskState) × HasGone old new later
+  GoesOn old new = (later : List DiskState) × HasGone old new later × (IsTrue (g.reads_were_true new) → IsTrue (g.reads_were_true old))
 
   -- At some moment from `old` to `new`, both included, a crash may leave these bytes.
   pub record MayLeave (old new : D) (bytes : List ℕ) : Type 0 where

@@ -1,7 +1,7 @@
 -- What a disk over a file shows.
-use Rattle.std.specs.Prelude.{ℕ, List}
+use Rattle.std.specs.Prelude.{ℕ, Bool, List}
 use Rattle.hg_disk.specs.State.{DiskState}
-use Rattle.hg_disk.specs.History.{failures_in, replay, states_before}
+use Rattle.hg_disk.specs.History.{failures_in, reads_were_true, replay, states_before}
 use Rattle.hg_disk.specs.declared.positioned.PositionedFile as file
 use Rattle.hg_disk.specs.declared.positioned.PositionedDisk.{PositionedDisk}
 
@@ -15,3 +15,7 @@ module _ {F : Type 0} (g : file.Ghosts F) where
 
   abbrev pub failures_of : PositionedDisk F g → ℕ
   failures_of d = failures_in d.history.events
+
+  -- whether each read that answered Ok gave the bytes of its moment
+  abbrev pub reads_were_true_of : PositionedDisk F g → Bool
+  reads_were_true_of d = reads_were_true (g.opened d.file) d.history.events

@@ -106,8 +106,10 @@ fn refuses(calls_left: &mut Option<u64>, stops: bool, history: &mut History, cal
 }
 
 impl<D: Disk> Disk for FuseDisk<D> {
-    ghost use Rattle.hg_disk.specs.Fuse.{Burns, CountsFailure, HasWritten, IsCut, KeepsImages, MayBeCut, MayHaveWritten, ReadsInto, Ticks, fuse_state, refusals_in, shown, shown_past};
+    ghost use Rattle.hg_disk.specs.Fuse.{Burns, CountsFailure, HasWritten, IsCut, KeepsImages, MayBeCut, MayHaveWritten, ReadsInto, Ticks, fuse_reads_were_true, fuse_state, refusals_in, shown, shown_past};
     ghost use Rattle.hg_disk.specs.FuseImages.{shown_image};
+
+    ghost reads_were_true = { λ f. D.Disk.reads_were_true f.inner };
 
     ghost is_honest = { D.Disk.is_honest };
 
@@ -119,15 +121,19 @@ impl<D: Disk> Disk for FuseDisk<D> {
 
     ghost has_its_bytes = { λ f. shown_image f.history.events (D.Disk.state f.inner) (D.Disk.past f.inner) (D.Disk.has_its_bytes f.inner) };
 
+    ghost honest_reads = { λ honest f. D.Disk.honest_reads honest f.inner };
+
     fn len(&self) -> u64 {
         self.inner.len()
     }
 
     fn read_at(&mut self, at: u64, buf: &mut [u8]) -> Result<(), DiskFault>
         requires { at + length buf.old ≤ length (fuse_state ⟦<D as Disk>⟧ self.old).contents }
-        ensures bytes { IsTrue D.is_honest → OnOk result (ReadsInto ⟦<D as Disk>⟧ self.old at buf.old buf.new) }
+        ensures bytes { IsTrue (fuse_reads_were_true ⟦<D as Disk>⟧ self.new) → OnOk result (ReadsInto ⟦<D as Disk>⟧ self.old at buf.old buf.new) }
         ensures state { fuse_state ⟦<D as Disk>⟧ self.new ≡ fuse_state ⟦<D as Disk>⟧ self.old }
         ensures clock { Ticks ⟦<D as Disk>⟧ self.old self.new }
+        ensures kept { IsTrue (fuse_reads_were_true ⟦<D as Disk>⟧ self.new) → IsTrue (fuse_reads_were_true ⟦<D as Disk>⟧ self.old) }
+        ensures fair { IsTrue (fuse_reads_were_true ⟦<D as Disk>⟧ self.old) → OnOk result (ReadsInto ⟦<D as Disk>⟧ self.old at buf.old buf.new) → IsTrue (fuse_reads_were_true ⟦<D as Disk>⟧ self.new) }
         ensures failures { CountsFailure ⟦<D as Disk>⟧ self.old self.new result }
         ensures fuse { Burns ⟦<D as Disk>⟧ self.old self.new result }
     {
@@ -149,6 +155,8 @@ impl<D: Disk> Disk for FuseDisk<D> {
         ensures err { OnErr result (MayHaveWritten ⟦<D as Disk>⟧ at bytes.now self.old self.new) }
         ensures fits { OnOk result (at + length bytes.now ≤ 2 ^ 62) }
         ensures clock { Ticks ⟦<D as Disk>⟧ self.old self.new }
+        ensures kept { IsTrue (fuse_reads_were_true ⟦<D as Disk>⟧ self.new) → IsTrue (fuse_reads_were_true ⟦<D as Disk>⟧ self.old) }
+        ensures fair { IsTrue (fuse_reads_were_true ⟦<D as Disk>⟧ self.old) → IsTrue (fuse_reads_were_true ⟦<D as Disk>⟧ self.new) }
         ensures failures { CountsFailure ⟦<D as Disk>⟧ self.old self.new result }
         ensures fuse { Burns ⟦<D as Disk>⟧ self.old self.new result }
     {
@@ -168,6 +176,8 @@ impl<D: Disk> Disk for FuseDisk<D> {
         ensures ok { OnOk result (IsCut ⟦<D as Disk>⟧ to self.old self.new) }
         ensures err { OnErr result (MayBeCut ⟦<D as Disk>⟧ to self.old self.new) }
         ensures clock { Ticks ⟦<D as Disk>⟧ self.old self.new }
+        ensures kept { IsTrue (fuse_reads_were_true ⟦<D as Disk>⟧ self.new) → IsTrue (fuse_reads_were_true ⟦<D as Disk>⟧ self.old) }
+        ensures fair { IsTrue (fuse_reads_were_true ⟦<D as Disk>⟧ self.old) → IsTrue (fuse_reads_were_true ⟦<D as Disk>⟧ self.new) }
         ensures failures { CountsFailure ⟦<D as Disk>⟧ self.old self.new result }
         ensures fuse { Burns ⟦<D as Disk>⟧ self.old self.new result }
     {
@@ -188,6 +198,8 @@ impl<D: Disk> Disk for FuseDisk<D> {
         ensures ok { OnOk result (fuse_state ⟦<D as Disk>⟧ self.new ≡ after_sync (fuse_state ⟦<D as Disk>⟧ self.old)) }
         ensures err { OnErr result (KeepsImages ⟦<D as Disk>⟧ self.old self.new) }
         ensures clock { Ticks ⟦<D as Disk>⟧ self.old self.new }
+        ensures kept { IsTrue (fuse_reads_were_true ⟦<D as Disk>⟧ self.new) → IsTrue (fuse_reads_were_true ⟦<D as Disk>⟧ self.old) }
+        ensures fair { IsTrue (fuse_reads_were_true ⟦<D as Disk>⟧ self.old) → IsTrue (fuse_reads_were_true ⟦<D as Disk>⟧ self.new) }
         ensures failures { CountsFailure ⟦<D as Disk>⟧ self.old self.new result }
         ensures fuse { Burns ⟦<D as Disk>⟧ self.old self.new result }
     {

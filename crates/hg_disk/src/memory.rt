@@ -143,6 +143,8 @@ impl MemDisk {
 impl Disk for MemDisk {
     ghost use Rattle.hg_disk.specs.Memory.{KeepsCall, StaysInRoom, WritesInRoom, failures_of, fails_next, past_of, state_of};
 
+    ghost reads_were_true = { λ _. true };
+
     ghost is_honest = { true };
 
     ghost state = { state_of };
@@ -152,6 +154,8 @@ impl Disk for MemDisk {
     ghost failures = { failures_of };
 
     ghost has_its_bytes = { λ m. has_contents m.start.items m.tape.history.events };
+
+    ghost honest_reads = { λ _ _. refl };
 
     fn len(&self) -> u64 {
         self.bytes.len() as u64

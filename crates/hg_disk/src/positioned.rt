@@ -1,5 +1,5 @@
 //! A disk over a file that is read and written at positions.
-ghost use Rattle.std.specs.Prelude.{◌≡◌, ◌↔◌, ◌≤◌, ◌^◌, [], ℕ, List, false, length, IsNone, is_ok};
+ghost use Rattle.std.specs.Prelude.{◌≡◌, ◌↔◌, ◌≤◌, ◌^◌, [], ℕ, List, false, length, IsNone, IsTrue, is_ok};
 ghost use Rattle.hg_disk.specs.Event.{with_answer, with_refusal};
 ghost use Rattle.hg_disk.specs.History.{KeepsError, replay};
 ghost use Rattle.hg_disk.specs.Kept.{has_contents};
@@ -50,7 +50,7 @@ pub trait PositionedFile {
 /// A disk over a file. Each call of the disk is one call of the file, with the same bytes and the same answer; only a write that
 /// would end behind the greatest length is refused without one.
 ///
-/// That the file does what its calls say is not promised, so this disk is not honest.
+/// That a read of the file gives what stands in it is not promised: it is a premise, `reads_were_true`.
 pub struct PositionedDisk<F: PositionedFile> {
     file: F,
     len: u64,
@@ -77,7 +77,7 @@ impl<F: PositionedFile + Drop> Drop for PositionedDisk<F> {
 
 impl<F: PositionedFile> PositionedDisk<F> {
     ghost use Rattle.hg_disk.specs.State.{settled};
-    ghost use Rattle.hg_disk.specs.Positioned.{failures_of, past_of, state_of};
+    ghost use Rattle.hg_disk.specs.Positioned.{failures_of, past_of, reads_were_true_of, state_of};
 
     /// A disk over this file, which was opened just now.
     pub fn new(file: F) -> PositionedDisk<F>
@@ -86,6 +86,7 @@ impl<F: PositionedFile> PositionedDisk<F> {
         ensures state { state_of ⟦<F as PositionedFile>⟧ result ≡ settled (F.opened file) }
         ensures past { past_of ⟦<F as PositionedFile>⟧ result ≡ [] }
         ensures failures { failures_of ⟦<F as PositionedFile>⟧ result ≡ 0 }
+        ensures reads { IsTrue (reads_were_true_of ⟦<F as PositionedFile>⟧ result) }
     {
         let len = file.opened_len();
         PositionedDisk {
@@ -136,7 +137,9 @@ fn refuse(history: &mut History, error: &mut Option<io::Error>, call: Call)
 }
 
 impl<F: PositionedFile> Disk for PositionedDisk<F> {
-    ghost use Rattle.hg_disk.specs.Positioned.{failures_of, past_of, state_of};
+    ghost use Rattle.hg_disk.specs.Positioned.{failures_of, past_of, reads_were_true_of, state_of};
+
+    ghost reads_were_true = { reads_were_true_of ⟦<F as PositionedFile>⟧ };
 
     ghost is_honest = { false };
 
@@ -147,6 +150,8 @@ impl<F: PositionedFile> Disk for PositionedDisk<F> {
     ghost failures = { failures_of ⟦<F as PositionedFile>⟧ };
 
     ghost has_its_bytes = { λ f. has_contents (F.PositionedFile.opened f.file) f.history.events };
+
+    ghost honest_reads = { λ honest _. ⊥_elim honest };
 
     fn len(&self) -> u64 {
         self.len

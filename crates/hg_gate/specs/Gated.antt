@@ -112,9 +112,9 @@ module _ {D : Type 0} (g : disk.Ghosts D) where
       (gate : ℕ) (body rest : List ℕ) → Rests g old (gate ∷ (framed body ++ rest))
       → LeavesOnly g (disk_of old) (disk_of new) (IsClosedOrOpenWith body)
 
-  -- If an honest disk is told as damaged, its file is neither closed nor open.
-  abbrev pub TellsTrueDamage : {T : Type 0} → Gated D → Result T GateFault → Type 0
-  TellsTrueDamage it result = IsTrue g.is_honest → IsErrOf result Damaged → IsNotGated (g.state (disk_of it)).contents
+  -- If the reads were true and damage is told, the file is neither closed nor open.
+  abbrev pub TellsTrueDamage : {T : Type 0} → (old new : Gated D) → Result T GateFault → Type 0
+  TellsTrueDamage old new result = IsTrue (g.reads_were_true (disk_of new)) → IsErrOf result Damaged → IsNotGated (g.state (disk_of old)).contents
 
   -- If an honest disk is told as damaged, its file is not closed, and it is open with no body that is wanted.
   abbrev pub TellsUnwanted : {T : Type 0} → (wants : List ℕ → Type 0) → Gated D → Result T GateFault → Type 0

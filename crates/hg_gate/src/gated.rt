@@ -105,6 +105,7 @@ impl<D: Disk> Gated<D> {
 
         ensures fault { IfErr result IsBrokenOrDevice }
         ensures calls { CallsAtMost ⟦<D as Disk>⟧ 2 (disk_of self.old) (disk_of self.new) }
+        ensures kept { IsTrue (D.reads_were_true (disk_of self.new)) → IsTrue (D.reads_were_true (disk_of self.old)) }
         ensures device { D.failures (disk_of self.new) ≡ failures_after result (D.failures (disk_of self.old)) }
         ensures works { OnOk result (is_broken self.new ≡ false) }
         ensures breaks { OnErr result (IsTrue (is_broken self.new)) }
@@ -128,6 +129,7 @@ impl<D: Disk> Gated<D> {
 
         ensures fault { IfErr result IsBrokenOrDevice }
         ensures calls { CallsAtMost ⟦<D as Disk>⟧ 4 (disk_of self.old) (disk_of self.new) }
+        ensures kept { IsTrue (D.reads_were_true (disk_of self.new)) → IsTrue (D.reads_were_true (disk_of self.old)) }
         ensures device { D.failures (disk_of self.new) ≡ failures_after result (D.failures (disk_of self.old)) }
         ensures works { OnOk result (is_broken self.new ≡ false) }
         ensures breaks { OnErr result (IsTrue (is_broken self.new)) }
@@ -152,6 +154,7 @@ impl<D: Disk> Gated<D> {
 
         ensures fault { IfErr result IsBrokenOrDevice }
         ensures calls { CallsAtMost ⟦<D as Disk>⟧ 2 (disk_of self.old) (disk_of self.new) }
+        ensures kept { IsTrue (D.reads_were_true (disk_of self.new)) → IsTrue (D.reads_were_true (disk_of self.old)) }
         ensures device { D.failures (disk_of self.new) ≡ failures_after result (D.failures (disk_of self.old)) }
         ensures works { OnOk result (is_broken self.new ≡ false) }
         ensures breaks { OnErr result (IsTrue (is_broken self.new)) }
@@ -168,8 +171,8 @@ impl<D: Disk> Gated<D> {
     /// The body, or none where the gate is closed. `Damaged` if the file is empty, or if it is open and too short for the
     /// length that it spells. After an `Err` it can be tried again. It makes three device calls at most.
     pub fn read(&mut self, alloc: Global) -> Result<Option<Vec<u8>>, GateFault>
-        ensures read { IsTrue D.is_honest → IfOk result (HasBody (D.state (disk_of self.old)).contents) }
-        ensures damaged { TellsTrueDamage ⟦<D as Disk>⟧ self.old result }
+        ensures read { IsTrue (D.reads_were_true (disk_of self.new)) → IfOk result (HasBody (D.state (disk_of self.old)).contents) }
+        ensures damaged { TellsTrueDamage ⟦<D as Disk>⟧ self.old self.new result }
 
         // So an open file has one body (the law `one_body`).
         ensures fits { OnOk result (length (D.state (disk_of self.old)).contents ≤ 2 ^ 62) }
@@ -232,6 +235,7 @@ fn replace_body<D: Disk>(disk: &mut D, body: &[u8]) -> Result<(), DiskFault>
     ensures written { ReplacesBody ⟦<D as Disk>⟧ body.now disk.old disk.new result }
     ensures any_moment { LeavesClosed ⟦<D as Disk>⟧ disk.old disk.new }
     ensures calls { CallsAtMost ⟦<D as Disk>⟧ 4 disk.old disk.new }
+    ensures kept { IsTrue (D.reads_were_true disk.new) → IsTrue (D.reads_were_true disk.old) }
     ensures failures { D.failures disk.new ≡ counted result (D.failures disk.old) }
 {
     disk.write_at(1, &(body.len() as u64).to_be_bytes())?;
@@ -244,7 +248,7 @@ fn replace_body<D: Disk>(disk: &mut D, body: &[u8]) -> Result<(), DiskFault>
 fn is_open<D: Disk>(disk: &mut D) -> Result<bool, GateFault>
     ensures some { OnOk result (1 ≤ length (D.state disk.old).contents) }
     ensures fits { OnOk result (length (D.state disk.old).contents ≤ 2 ^ 62) }
-    ensures open { IsTrue D.is_honest → IfOk result (TellsGate (D.state disk.old).contents) }
+    ensures open { IsTrue (D.reads_were_true disk.new) → IfOk result (TellsGate (D.state disk.old).contents) }
     ensures damaged { IsErrOf result GateFault.Damaged → (D.state disk.old).contents ≡ [] }
     ensures fault { IfErr result IsDamagedOrDevice }
     ensures device { D.failures disk.new ≡ failures_after result (D.failures disk.old) }
@@ -261,8 +265,8 @@ fn is_open<D: Disk>(disk: &mut D) -> Result<bool, GateFault>
 // The length behind the first byte of a file. `Damaged` if the file is too short for it.
 fn read_length<D: Disk>(disk: &mut D) -> Result<u64, GateFault>
     ensures within { IfOk result (λ len. 9 + len ≤ length (D.state disk.old).contents) }
-    ensures bytes { IsTrue D.is_honest → IfOk result (HasLength (D.state disk.old).contents) }
-    ensures damaged { IsTrue D.is_honest → IsErrOf result GateFault.Damaged → IsNotOpen (D.state disk.old).contents }
+    ensures bytes { IsTrue (D.reads_were_true disk.new) → IfOk result (HasLength (D.state disk.old).contents) }
+    ensures damaged { IsTrue (D.reads_were_true disk.new) → IsErrOf result GateFault.Damaged → IsNotOpen (D.state disk.old).contents }
     ensures fault { IfErr result IsDamagedOrDevice }
     ensures device { D.failures disk.new ≡ failures_after result (D.failures disk.old) }
     ensures reads { WasRead ⟦<D as Disk>⟧ 1 disk.old disk.new }

@@ -93,6 +93,7 @@ impl<D: Disk> Log<D> {
         requires { length (D.state disk).contents ≡ 0 }
         ensures empty { IfOk result (IsEmptyOn header disk) }
         ensures calls { CallsAtMost ⟦<D as Disk>⟧ 2 disk (disk_after result) }
+        ensures kept { IsTrue (D.reads_were_true (disk_after result)) → IsTrue (D.reads_were_true disk) }
         ensures device { IfErr result (λ e. e.0 ≡ GateFault.DeviceFault → D.failures e.1 ≡ D.failures disk + 1) }
         ensures memory { IfErr result (FailedOrUncalled disk) }
     {
@@ -108,6 +109,7 @@ impl<D: Disk> Log<D> {
         requires { length (D.state disk).contents ≡ 0 }
         ensures empty { IfOk result (IsEmptyOn header disk) }
         ensures calls { CallsAtMost ⟦<D as Disk>⟧ 2 disk (disk_after result) }
+        ensures kept { IsTrue (D.reads_were_true (disk_after result)) → IsTrue (D.reads_were_true disk) }
         ensures device { IfErr result (λ e. (e.0 ≡ GateFault.DeviceFault) × (D.failures e.1 ≡ D.failures disk + 1)) }
     {
         let LogRoom { buffer } = room;
@@ -183,6 +185,7 @@ impl<D: Disk> Log<D> {
 
         ensures fault { IfErr result IsBrokenOrDevice }
         ensures calls { CallsAtMost ⟦<D as Disk>⟧ 4 (disk_of self.old) (disk_of self.new) }
+        ensures kept { IsTrue (D.reads_were_true (disk_of self.new)) → IsTrue (D.reads_were_true (disk_of self.old)) }
         ensures device { D.failures (disk_of self.new) ≡ failures_after result (D.failures (disk_of self.old)) }
         ensures breaks { OnErr result (IsTrue (is_broken self.new)) }
         ensures works { OnOk result (is_broken self.new ≡ false) }

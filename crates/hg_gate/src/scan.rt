@@ -136,7 +136,7 @@ fn read_header<D: Disk>(disk: &mut D) -> Result<(), GateFault>
 // Fills the buffer with the bytes from the offset `at` on.
 pub(crate) fn read_bytes<D: Disk>(disk: &mut D, at: u64, buf: &mut [u8]) -> Result<(), GateFault>
     requires { at + length buf.old ≤ length (D.state disk.old).contents }
-    ensures bytes { IsTrue D.is_honest → OnOk result (Fills (D.state disk.old) at buf.old buf.new) }
+    ensures bytes { IsTrue (D.reads_were_true disk.new) → OnOk result (Fills (D.state disk.old) at buf.old buf.new) }
     ensures fault { IfErr result (λ e. e ≡ GateFault.DeviceFault) }
     ensures device { D.failures disk.new ≡ failures_after result (D.failures disk.old) }
     ensures reads { WasRead ⟦<D as Disk>⟧ 1 disk.old disk.new }
@@ -153,7 +153,7 @@ pub(crate) fn read_vec<D: Disk>(
     len: usize,
 ) -> Result<Vec<u8>, GateFault>
     requires { at + len ≤ length (D.state disk.old).contents }
-    ensures bytes { IsTrue D.is_honest → IfOk result (λ v. v.items ≡ take len (drop at (D.state disk.old).contents)) }
+    ensures bytes { IsTrue (D.reads_were_true disk.new) → IfOk result (λ v. v.items ≡ take len (drop at (D.state disk.old).contents)) }
     ensures len { IfOk result (λ v. length v.items ≡ len) }
     ensures fault { IfErr result (λ e. (e ≡ GateFault.DeviceFault) ⊎ (e ≡ GateFault.OutOfMemory)) }
     ensures device { D.failures disk.new ≡ failures_after result (D.failures disk.old) }

@@ -235,11 +235,11 @@ module _ {D : Type 0} {g : disk.Ghosts D} where
   StaysBroken old new = IsTrue (is_broken old) → (disk_of new ≡ disk_of old) × IsTrue (is_broken new)
 
   -- Of the first `count` events those from number `from` on are found, at most `most`,
-  abbrev pub Collects : {E : Type 0} → Journal D g → (count from most : ℕ) → Result (Vec Named) E → Type 0
-  Collects old count from most result =
-      (events : List Named) → IsTrue g.is_honest → KeepsEvents old events → length events ≡ count
+  abbrev pub Collects : {E : Type 0} → (old new : Journal D g) → (count from most : ℕ) → Result (Vec Named) E → Type 0
+  Collects old new count from most result =
+      (events : List Named) → IsTrue (g.reads_were_true (disk_of new)) → KeepsEvents old events → length events ≡ count
       → IfOk result (λ found. found.items ≡ take most (drop (from - 1) events))
 
   -- and no damage.
-  abbrev pub CollectsUndamaged : {T : Type 0} → Journal D g → Result T Refusal → Type 0
-  CollectsUndamaged old result = (events : List Named) → IsTrue g.is_honest → KeepsEvents old events → IfErr result (λ e. e ≢ Damaged)
+  abbrev pub CollectsUndamaged : {T : Type 0} → (old new : Journal D g) → Result T Refusal → Type 0
+  CollectsUndamaged old new result = (events : List Named) → IsTrue (g.reads_were_true (disk_of new)) → KeepsEvents old events → IfErr result (λ e. e ≢ Damaged)

@@ -22,8 +22,8 @@ pub fn collect<D: Disk>(
     max: usize,
 ) -> Result<Vec<Named>, Refusal>
     requires works { is_broken journal.old ≡ false }
-    ensures events { Collects journal.old count from max result }
-    ensures whole { CollectsUndamaged journal.old result }
+    ensures events { Collects journal.old journal.new count from max result }
+    ensures whole { CollectsUndamaged journal.old journal.new result }
     ensures keeps { (events : List NamedOf) → KeepsEvents journal.old events → KeepsEvents journal.new events }
     ensures works { is_broken journal.new ≡ false }
     ensures refusal { IfErr result IsOfReading }

@@ -107,6 +107,7 @@ impl<D: Disk> Journal<D> {
         requires { length (D.state disk).contents ≡ 0 }
         ensures empty { IfOk result (IsEmptyOn disk) }
         ensures calls { CallsAtMost ⟦<D as Disk>⟧ 2 disk (disk_after result) }
+        ensures kept { IsTrue (D.reads_were_true (disk_after result)) → IsTrue (D.reads_were_true disk) }
         ensures device { IfErr result (λ e. e.0 ≡ Refusal.DeviceFault → D.failures e.1 ≡ D.failures disk + 1) }
         ensures memory { IfErr result (FailedOrUncalled disk) }
     {
@@ -122,6 +123,7 @@ impl<D: Disk> Journal<D> {
         requires { length (D.state disk).contents ≡ 0 }
         ensures empty { IfOk result (IsEmptyOn disk) }
         ensures calls { CallsAtMost ⟦<D as Disk>⟧ 2 disk (disk_after result) }
+        ensures kept { IsTrue (D.reads_were_true (disk_after result)) → IsTrue (D.reads_were_true disk) }
         ensures device { IfErr result (λ e. (e.0 ≡ Refusal.DeviceFault) × (D.failures e.1 ≡ D.failures disk + 1)) }
     {
         let JournalRoom { log, body } = room;
@@ -184,6 +186,7 @@ impl<D: Disk> Journal<D> {
 
         ensures fault { IfErr result IsBrokenOrDevice }
         ensures calls { CallsAtMost ⟦<D as Disk>⟧ 4 (disk_of self.old) (disk_of self.new) }
+        ensures kept { IsTrue (D.reads_were_true (disk_of self.new)) → IsTrue (D.reads_were_true (disk_of self.old)) }
         ensures device { D.failures (disk_of self.new) ≡ failed_after result (D.failures (disk_of self.old)) }
         ensures broken { IsErrOf result Refusal.Broken → IsTrue (is_broken self.old) }
         ensures breaks { OnErr result (IsTrue (is_broken self.new)) }

@@ -158,6 +158,7 @@ impl<D: Disk> SlotFile<D> {
         ensures long { (n : ℕ) → IsNeverShorter ⟦<D as Disk>⟧ n (disk_of self.old) (disk_of self.new) }
 
         ensures calls { CallsAtMost ⟦<D as Disk>⟧ 1 (disk_of self.old) (disk_of self.new) }
+        ensures kept { IsTrue (D.reads_were_true (disk_of self.new)) → IsTrue (D.reads_were_true (disk_of self.old)) }
         ensures device { D.failures (disk_of self.new) ≡ failures_after_write result (D.failures (disk_of self.old)) }
         ensures works { OnOk result (is_broken self.new ≡ false) }
         ensures breaks { OnErr result (IsTrue (is_broken self.new)) }
@@ -199,7 +200,7 @@ impl<D: Disk> SlotFile<D> {
     /// `Damaged` if the slot does not lie within the file. The file stays as it is, and after an `Err` it can be tried
     /// again. It makes one device call at most, and takes 3,080 bytes of memory.
     pub fn read(&mut self, alloc: Global, slot: u32) -> Result<EncodedPage, SlotFault>
-        ensures read { IsTrue D.is_honest → IfOk result (StandsIn slot (known ⟦<D as Disk>⟧ self.old)) }
+        ensures read { IsTrue (D.reads_were_true (disk_of self.new)) → IfOk result (StandsIn slot (known ⟦<D as Disk>⟧ self.old)) }
         ensures number { IfOk result (λ found. to_be_bytes w64 found.page ≡ take 8 found.bytes) }
         ensures damaged { IsErrOf result SlotFault.Damaged → IsOutside slot (known ⟦<D as Disk>⟧ self.old) }
         ensures stays { WasRead ⟦<D as Disk>⟧ 1 self.old self.new }

@@ -1,4 +1,4 @@
-use Rattle.std.proofs.Common.{◌≡◌, ◌-◌, ◌*◌, ◌≤◌, List, length, false, IsTrue}
+use Rattle.std.proofs.Common.{IsTrue, ◌≡◌, ◌-◌, ◌*◌, ◌≤◌, List, length, false}
 use Rattle.hg_model.specs.declared.event.Named.{Named}
 use Rattle.hg_disk.specs.Calls.{CallsAtMost}
 use Rattle.hg_disk.specs.State.{IsImage}
@@ -17,7 +17,7 @@ invariant-loop-number g l = record {
   keeps : (events : List Named) → KeepsEvents l.fn.journal events → KeepsEvents l.journal events;
   within : l.number ≤ l.fn.count;
   few : length l.found.items ≤ l.fn.max;
-  read : (events : List Named) → IsTrue g.D.Disk.is_honest → KeepsEvents l.fn.journal events → Collected l.journal l.reader l.number l.fn.from l.found.items;
+  read : (events : List Named) → IsTrue (g.D.Disk.reads_were_true (disk_of l.journal)) → KeepsEvents l.fn.journal events → Collected l.journal l.reader l.number l.fn.from l.found.items;
 }
 
 abbrev pub decreases-loop-number : goal.decreases-loop-number

@@ -11,7 +11,7 @@ pub returns-in_err-len-clause-damaged : goal.returns-in_err-len-clause-damaged
 returns-in_err-len-clause-damaged g c honest is body =
     let file = (g.D.Disk.state c.args.self.now.disk).contents in
     let same : c.in_err-len.field-0.0 ≡ Damaged = grind arith in
-    let gate : get_or file 0 0 ≡ open_gate = (c.in_ok-is_open.ensures.open honest).0 c.if-not-branch.false in
+    let gate : get_or file 0 0 ≡ open_gate = (c.in_ok-is_open.ensures.open (c.read_length.ensures.any_moment.kept honest)).0 c.if-not-branch.false in
     ⊎_elim (λ closed. not_closed file gate closed) (λ opened.
     c.in_err-len.ensures.damaged honest (λ i. Err (same i)) body (subst (λ (s : DiskState). IsOpenWith body s.contents) (sym c.is_open.ensures.reads.state) opened))
 

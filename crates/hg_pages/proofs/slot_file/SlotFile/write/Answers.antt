@@ -7,12 +7,12 @@ use Rattle.hg_pages.proofs.slot_file.SlotFile.write.Goals as goal
 pub returns-in_err-written-clause-any_moment : goal.returns-in_err-written-clause-any_moment
 returns-in_err-written-clause-any_moment g c other bytes apart leaves =
     write_keeps g.D.Disk g.met.D.Disk.has_its_bytes c.args.self.now.disk c.write_at-written.new.self c.args.slot other (c.args.slot * 3080) c.bytes.result.now bytes c.write_at-written.result (omega arith) c.bytes.ensures.length apart
-    c.write_at-written.ensures.ok c.write_at-written.ensures.err c.write_at-written.ensures.clock leaves
+    c.write_at-written.ensures.ok c.write_at-written.ensures.err c.write_at-written.ensures.clock c.write_at-written.ensures.kept leaves
 
 pub returns-clause-any_moment : goal.returns-clause-any_moment
 returns-clause-any_moment g c other bytes apart leaves =
     write_keeps g.D.Disk g.met.D.Disk.has_its_bytes c.args.self.now.disk c.write_at-written.new.self c.args.slot other (c.args.slot * 3080) c.bytes.result.now bytes c.write_at-written.result (omega arith) c.bytes.ensures.length apart
-    c.write_at-written.ensures.ok c.write_at-written.ensures.err c.write_at-written.ensures.clock leaves
+    c.write_at-written.ensures.ok c.write_at-written.ensures.err c.write_at-written.ensures.clock c.write_at-written.ensures.kept leaves
 
 pub returns-clause-written : goal.returns-clause-written
 returns-clause-written g c =
@@ -32,10 +32,10 @@ returns-clause-others g c other bytes apart was =
     (as_read (HasBytes other bytes) c.args.self.now.is_broken (g.D.Disk.state c.args.self.now.before.value).contents old c.if-self.false was)))
 
 pub returns-in_err-written-clause-long : goal.returns-in_err-written-clause-long
-returns-in_err-written-clause-long g c n leaves = write_long g.D.Disk c.args.self.now.disk c.write_at-written.new.self n (c.args.slot * 3080) c.bytes.result.now c.write_at-written.result c.write_at-written.ensures.ok c.write_at-written.ensures.err c.write_at-written.ensures.clock leaves
+returns-in_err-written-clause-long g c n leaves = write_long g.D.Disk c.args.self.now.disk c.write_at-written.new.self n (c.args.slot * 3080) c.bytes.result.now c.write_at-written.result c.write_at-written.ensures.ok c.write_at-written.ensures.err c.write_at-written.ensures.clock c.write_at-written.ensures.kept leaves
 
 pub returns-clause-long : goal.returns-clause-long
-returns-clause-long g c n leaves = write_long g.D.Disk c.args.self.now.disk c.write_at-written.new.self n (c.args.slot * 3080) c.bytes.result.now c.write_at-written.result c.write_at-written.ensures.ok c.write_at-written.ensures.err c.write_at-written.ensures.clock leaves
+returns-clause-long g c n leaves = write_long g.D.Disk c.args.self.now.disk c.write_at-written.new.self n (c.args.slot * 3080) c.bytes.result.now c.write_at-written.result c.write_at-written.ensures.ok c.write_at-written.ensures.err c.write_at-written.ensures.clock c.write_at-written.ensures.kept leaves
 
 pub returns-clause-length : goal.returns-clause-length
 returns-clause-length g c =
