@@ -141,6 +141,7 @@ impl MemDisk {
 }
 
 impl Disk for MemDisk {
+    ghost use Rattle.std.proofs.Common.{refl};
     ghost use Rattle.hg_disk.specs.Memory.{KeepsCall, StaysInRoom, WritesInRoom, failures_of, fails_next, past_of, state_of};
 
     ghost reads_were_true = { λ _. true };

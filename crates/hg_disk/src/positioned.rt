@@ -137,6 +137,8 @@ fn refuse(history: &mut History, error: &mut Option<io::Error>, call: Call)
 }
 
 impl<F: PositionedFile> Disk for PositionedDisk<F> {
+    ghost use Rattle.std.proofs.Common.{absurd};
+    ghost use Rattle.std.proofs.lemmas.Bool.{false≢true};
     ghost use Rattle.hg_disk.specs.Positioned.{failures_of, past_of, reads_were_true_of, state_of};
 
     ghost reads_were_true = { reads_were_true_of ⟦<F as PositionedFile>⟧ };
@@ -151,7 +153,7 @@ impl<F: PositionedFile> Disk for PositionedDisk<F> {
 
     ghost has_its_bytes = { λ f. has_contents (F.PositionedFile.opened f.file) f.history.events };
 
-    ghost honest_reads = { λ honest _. ⊥_elim honest };
+    ghost honest_reads = { λ honest _. absurd (false≢true honest) };
 
     fn len(&self) -> u64 {
         self.len
