@@ -1,9 +1,9 @@
 -- What a crash may leave over several calls.
-use Rattle.std.proofs.Common.{IsTrue, ◌≡◌, ◌⊎◌, inl, inr, ℕ, Result, Ok, Err, OnOk, OnErr, List, [], ◌∷◌, ◌++◌, refl, sym, ◌∙◌, ap, subst}
+use Rattle.std.proofs.Common.{◌≡◌, ◌⊎◌, inl, inr, ℕ, Result, Ok, Err, OnOk, OnErr, List, [], ◌∷◌, ◌++◌, refl, sym, ◌∙◌, ap, subst}
 use Rattle.std.proofs.lemmas.List.{append_assoc, append_cancel_right}
 use Rattle.hg_disk.specs.State.{DiskState, IsImage, SameImages, after_write, after_cut, after_sync}
 use Rattle.hg_disk.specs.Kept.{image_of_write, image_of_cut}
-use Rattle.hg_disk.specs.Moments.{EachLeaves, GoesOn, HasGone, IsAmong, Leaves, LeavesOnly, MayLeave, history}
+use Rattle.hg_disk.specs.Moments.{EachLeaves, GoesOn, HasGone, IsAmong, Leaves, LeavesOnly, MayLeave, WereTrueBefore, history}
 use Rattle.hg_disk.specs.declared.disk.Disk as disk
 
 -- the images of a state with the same bytes at the sync and the same changes since
@@ -59,7 +59,7 @@ module _ {D : Type 0} (g : disk.Ghosts D) where
   started d P now = record { later = []; has_gone = refl; first = now; each = tt; kept = λ were. were }
 
   -- one call
-  pub one_call : (old new : D) (P : List ℕ → Type 0) → g.past new ≡ (g.state old ∷ g.past old) → (IsTrue (g.reads_were_true new) → IsTrue (g.reads_were_true old)) → Leaves P (g.state old) → Leaves P (g.state new) → LeavesOnly g old new P
+  pub one_call : (old new : D) (P : List ℕ → Type 0) → g.past new ≡ (g.state old ∷ g.past old) → WereTrueBefore g old new → Leaves P (g.state old) → Leaves P (g.state new) → LeavesOnly g old new P
   one_call old new P clock kept before after = record {
     later = g.state new ∷ [];
     has_gone = ap (λ (past : List DiskState). g.state new ∷ past) clock;
@@ -96,26 +96,26 @@ module _ {D : Type 0} (g : disk.Ghosts D) where
 
   -- a write: what it may leave torn
   pub write_leaves : {T E : Type 0} (old new : D) (at : ℕ) (bytes : List ℕ) (result : Result T E) → OnOk result (g.state new ≡ after_write at bytes (g.state old))
-      → OnErr result (SameImages (after_write at bytes (g.state old)) (g.state new)) → g.past new ≡ (g.state old ∷ g.past old) → (IsTrue (g.reads_were_true new) → IsTrue (g.reads_were_true old)) → LeavesOnly g old new (IsImage (after_write at bytes (g.state old)))
+      → OnErr result (SameImages (after_write at bytes (g.state old)) (g.state new)) → g.past new ≡ (g.state old ∷ g.past old) → WereTrueBefore g old new → LeavesOnly g old new (IsImage (after_write at bytes (g.state old)))
   write_leaves old new at bytes result ok err clock kept =
       one_call old new (IsImage (after_write at bytes (g.state old))) clock kept (image_of_write at bytes (g.state old))
       (λ image. same_images (after_write at bytes (g.state old)) (g.state new) image (as_counted result _ _ ok err))
 
   -- a cut
   pub cut_leaves : {T E : Type 0} (old new : D) (to : ℕ) (result : Result T E) → OnOk result (g.state new ≡ after_cut to (g.state old))
-      → OnErr result (SameImages (after_cut to (g.state old)) (g.state new)) → g.past new ≡ (g.state old ∷ g.past old) → (IsTrue (g.reads_were_true new) → IsTrue (g.reads_were_true old)) → LeavesOnly g old new (IsImage (after_cut to (g.state old)))
+      → OnErr result (SameImages (after_cut to (g.state old)) (g.state new)) → g.past new ≡ (g.state old ∷ g.past old) → WereTrueBefore g old new → LeavesOnly g old new (IsImage (after_cut to (g.state old)))
   cut_leaves old new to result ok err clock kept =
       one_call old new (IsImage (after_cut to (g.state old))) clock kept (image_of_cut to (g.state old))
       (λ image. same_images (after_cut to (g.state old)) (g.state new) image (as_counted result _ _ ok err))
 
   -- a sync: it adds no image
   pub sync_leaves : {T E : Type 0} (old new : D) (result : Result T E) → ((d : D) → IsImage (g.state d) (g.state d).contents) → OnOk result (g.state new ≡ after_sync (g.state old))
-      → OnErr result (SameImages (g.state old) (g.state new)) → g.past new ≡ (g.state old ∷ g.past old) → (IsTrue (g.reads_were_true new) → IsTrue (g.reads_were_true old)) → LeavesOnly g old new (IsImage (g.state old))
+      → OnErr result (SameImages (g.state old) (g.state new)) → g.past new ≡ (g.state old ∷ g.past old) → WereTrueBefore g old new → LeavesOnly g old new (IsImage (g.state old))
   sync_leaves old new result has_its_bytes ok err clock kept =
       one_call old new (IsImage (g.state old)) clock kept (λ image is. is) (after_a_sync result (g.state old) (g.state new) (has_its_bytes old) ok err)
 
   -- a read
-  pub read_leaves : (old new : D) → g.state new ≡ g.state old → g.past new ≡ (g.state old ∷ g.past old) → (IsTrue (g.reads_were_true new) → IsTrue (g.reads_were_true old)) → LeavesOnly g old new (IsImage (g.state old))
+  pub read_leaves : (old new : D) → g.state new ≡ g.state old → g.past new ≡ (g.state old ∷ g.past old) → WereTrueBefore g old new → LeavesOnly g old new (IsImage (g.state old))
   read_leaves old new same clock kept = one_call old new (IsImage (g.state old)) clock kept (λ image is. is) (λ image is. subst (λ (s : DiskState). IsImage s image) same is)
 
   -- the states that a disk went through are settled by its clock

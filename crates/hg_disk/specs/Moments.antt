@@ -34,14 +34,17 @@ module _ {D : Type 0} (g : disk.Ghosts D) where
   abbrev pub HasGone : D → D → List DiskState → Type 0
   HasGone old new later = history new ≡ later ++ history old
 
-  -- A crash at any moment from `old` to `new`, both included, leaves bytes that have P. If the reads up to `new` were true, so
-  -- were those up to `old`.
+  -- If the reads up to `new` were true, so were those up to `old`.
+  abbrev pub WereTrueBefore : (old new : D) → Type 0
+  WereTrueBefore old new = IsTrue (g.reads_were_true new) → IsTrue (g.reads_were_true old)
+
+  -- A crash at any moment from `old` to `new`, both included, leaves bytes that have P.
   pub record LeavesOnly (old new : D) (P : List ℕ → Type 0) : Type 0 where
     pub later : List DiskState
     pub has_gone : HasGone old new later
     pub first : Leaves P (g.state old)
     pub each : EachLeaves P later
-    pub kept : IsTrue (g.reads_were_true new) → IsTrue (g.reads_were_true old)
+    pub kept : WereTrueBefore old new
 
   -- A crash at any moment from `old` to `new` leaves what it might have left at the first one.
   abbrev pub AddsNoImage : (old new : D) → Type 0
@@ -57,7 +60,7 @@ module _ {D : Type 0} (g : disk.Ghosts D) where
 
   -- `new` is the disk `old` after some calls, or after none.
   abbrev pub GoesOn : D → D → Type 0
-  GoesOn old new = (later : List DiskState) × HasGone old new later × (IsTrue (g.reads_were_true new) → IsTrue (g.reads_were_true old))
+  GoesOn old new = (later : List DiskState) × HasGone old new later × WereTrueBefore old new
 
   -- At some moment from `old` to `new`, both included, a crash may leave these bytes.
   pub record MayLeave (old new : D) (bytes : List ℕ) : Type 0 where

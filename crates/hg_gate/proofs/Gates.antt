@@ -1,12 +1,12 @@
 -- What a crash leaves of a file while its gate is written, and while it is closed.
-use Rattle.std.proofs.Common.{IsTrue, ◌≡◌, ◌≢◌, inl, inr, ◌≤◌, ◌+◌, ℕ, Result, Ok, Err, OnOk, OnErr, List, [], ◌∷◌, ◌++◌, length, take, drop, get_or, refl, sym, ◌∙◌, ap, subst, arith, append_assoc, length-append}
+use Rattle.std.proofs.Common.{◌≡◌, ◌≢◌, inl, inr, ◌≤◌, ◌+◌, ℕ, Result, Ok, Err, OnOk, OnErr, List, [], ◌∷◌, ◌++◌, length, take, drop, get_or, refl, sym, ◌∙◌, ap, subst, arith, append_assoc, length-append}
 use Rattle.std.proofs.lemmas.Bool.{cases_eq}
 use Rattle.std.proofs.lemmas.List.{nil_from_length, take_at}
 use Rattle.std.specs.Int.{w64, to_be_bytes}
 use Rattle.hg_disk.specs.declared.disk.Disk as disk
 use Rattle.hg_disk.specs.State.{DiskState, IsImage, SameImages, settled, overwritten, after_write, after_cut, after_sync}
 use Rattle.hg_disk.specs.Laws.{KeepsBytes}
-use Rattle.hg_disk.specs.Moments.{LeavesOnly}
+use Rattle.hg_disk.specs.Moments.{LeavesOnly, WereTrueBefore}
 use Rattle.hg_disk.proofs.Moments.{weaker, write_leaves, cut_leaves, sync_leaves}
 use Rattle.hg_disk.proofs.Images.{torn_middle, overwritten_at}
 use Rattle.hg_disk.proofs.Keeping.{keeps_settled, keeps_write_behind, keeps_cut, keeps_image}
@@ -52,19 +52,19 @@ shut s gate image closed kept is =
 module _ {D : Type 0} (g : disk.Ghosts D) (gate : ℕ) (closed : gate ≢ open_gate) where
   -- each image of a call that leaves the closed gate is closed
   pub write_shut : {T E : Type 0} (old new : D) (at : ℕ) (bytes : List ℕ) (result : Result T E) → 1 ≤ at → KeepsBytes (g.state old) 0 (gate ∷ []) → OnOk result (g.state new ≡ after_write at bytes (g.state old))
-      → OnErr result (SameImages (after_write at bytes (g.state old)) (g.state new)) → g.past new ≡ (g.state old ∷ g.past old) → (IsTrue (g.reads_were_true new) → IsTrue (g.reads_were_true old)) → LeavesOnly g old new IsClosed
+      → OnErr result (SameImages (after_write at bytes (g.state old)) (g.state new)) → g.past new ≡ (g.state old ∷ g.past old) → WereTrueBefore g old new → LeavesOnly g old new IsClosed
   write_shut old new at bytes result behind kept ok err clock goes =
       weaker g old new (IsImage (after_write at bytes (g.state old))) IsClosed (write_leaves g old new at bytes result ok err clock goes) (λ image is.
       shut (after_write at bytes (g.state old)) gate image closed (written_kept (g.state old) (after_write at bytes (g.state old)) gate at bytes behind kept refl) is)
 
   pub cut_shut : {T E : Type 0} (old new : D) (to : ℕ) (result : Result T E) → 1 ≤ to → KeepsBytes (g.state old) 0 (gate ∷ []) → OnOk result (g.state new ≡ after_cut to (g.state old))
-      → OnErr result (SameImages (after_cut to (g.state old)) (g.state new)) → g.past new ≡ (g.state old ∷ g.past old) → (IsTrue (g.reads_were_true new) → IsTrue (g.reads_were_true old)) → LeavesOnly g old new IsClosed
+      → OnErr result (SameImages (after_cut to (g.state old)) (g.state new)) → g.past new ≡ (g.state old ∷ g.past old) → WereTrueBefore g old new → LeavesOnly g old new IsClosed
   cut_shut old new to result behind kept ok err clock goes =
       weaker g old new (IsImage (after_cut to (g.state old))) IsClosed (cut_leaves g old new to result ok err clock goes) (λ image is.
       shut (after_cut to (g.state old)) gate image closed (cut_kept (g.state old) (after_cut to (g.state old)) gate to behind kept refl) is)
 
   pub sync_shut : {T E : Type 0} (old new : D) (result : Result T E) → ((d : D) → IsImage (g.state d) (g.state d).contents) → KeepsBytes (g.state old) 0 (gate ∷ []) → OnOk result (g.state new ≡ after_sync (g.state old))
-      → OnErr result (SameImages (g.state old) (g.state new)) → g.past new ≡ (g.state old ∷ g.past old) → (IsTrue (g.reads_were_true new) → IsTrue (g.reads_were_true old)) → LeavesOnly g old new IsClosed
+      → OnErr result (SameImages (g.state old) (g.state new)) → g.past new ≡ (g.state old ∷ g.past old) → WereTrueBefore g old new → LeavesOnly g old new IsClosed
   sync_shut old new result has_its_bytes kept ok err clock goes =
       weaker g old new (IsImage (g.state old)) IsClosed (sync_leaves g old new result has_its_bytes ok err clock goes) (λ image is. shut (g.state old) gate image closed kept is)
 

@@ -23,7 +23,7 @@ module _ {D : Type 0} (g : disk.Ghosts D) where
   pub unread : (n : ℕ) (d : D) → WasRead g n d d
   unread n d = record {
     state = refl;
-    any_moment = record { later = []; has_gone = refl; first = λ image left. left; each = tt };
+    any_moment = record { later = []; has_gone = refl; first = λ image left. left; each = tt; kept = λ were. were };
     calls = omega arith;
   }
 

@@ -116,11 +116,11 @@ module _ {D : Type 0} (g : disk.Ghosts D) where
   abbrev pub TellsTrueDamage : {T : Type 0} → (old new : Gated D) → Result T GateFault → Type 0
   TellsTrueDamage old new result = IsTrue (g.reads_were_true (disk_of new)) → IsErrOf result Damaged → IsNotGated (g.state (disk_of old)).contents
 
-  -- If an honest disk is told as damaged, its file is not closed, and it is open with no body that is wanted.
-  abbrev pub TellsUnwanted : {T : Type 0} → (wants : List ℕ → Type 0) → Gated D → Result T GateFault → Type 0
-  TellsUnwanted wants it result =
-      IsTrue g.is_honest → IsErrOf result Damaged
-      → (¬ IsClosed (g.state (disk_of it)).contents) × ((body : List ℕ) → IsOpenWith body (g.state (disk_of it)).contents → ¬ wants body)
+  -- If the reads were true and damage is told, the file is not closed, and it is open with no body that is wanted.
+  abbrev pub TellsUnwanted : {T : Type 0} → (wants : List ℕ → Type 0) → (old new : Gated D) → Result T GateFault → Type 0
+  TellsUnwanted wants old new result =
+      IsTrue (g.reads_were_true (disk_of new)) → IsErrOf result Damaged
+      → (¬ IsClosed (g.state (disk_of old)).contents) × ((body : List ℕ) → IsOpenWith body (g.state (disk_of old)).contents → ¬ wants body)
 
   -- Behind the first byte of a durable disk stands this body, and nothing else.
   abbrev pub ReplacesBody : {T E : Type 0} → (body : List ℕ) → (old new : D) → Result T E → Type 0

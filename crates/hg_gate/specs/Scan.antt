@@ -25,9 +25,9 @@ IsNoTail bytes = (bodies : List (List ℕ)) → ¬ IsTail bytes bodies
 abbrev pub HasNoTail : (begins at : ℕ) → DiskState → Type 0
 HasNoTail begins at s = IsNoTail (drop at (drop begins s.contents))
 
--- If an honest disk is told as damaged, it has no such tail from this place on.
-abbrev pub TellsNoTail : {D : Type 0} → (g : disk.Ghosts D) → {T : Type 0} → (begins at : ℕ) → D → Result T GateFault → Type 0
-TellsNoTail g begins at old result = IsTrue g.is_honest → IsErrOf result Damaged → HasNoTail begins at (g.state old)
+-- If the reads were true and damage is told, the disk has no such tail from this place on.
+abbrev pub TellsNoTail : {D : Type 0} → (g : disk.Ghosts D) → {T : Type 0} → (begins at : ℕ) → (old new : D) → Result T GateFault → Type 0
+TellsNoTail g begins at old new result = IsTrue (g.reads_were_true new) → IsErrOf result Damaged → HasNoTail begins at (g.state old)
 
 -- an open gate, the length n of a body, so many bytes, and more
 pub record IsOpen (bytes : List ℕ) (n : ℕ) : Type 0 where

@@ -7,7 +7,7 @@ use Rattle.hg_gate.specs.declared.fault.GateFault.TheVariants.{Damaged}
 use Rattle.hg_gate.specs.declared.log.Log.{Log}
 use Rattle.hg_gate.specs.declared.reader.LogReader.{LogReader}
 use Rattle.hg_gate.specs.Batches.{IsBody, IsClosed, batch}
-use Rattle.hg_gate.specs.Log.{Reads}
+use Rattle.hg_gate.specs.Log.{Reads, disk_of}
 use Rattle.hg_gate.specs.Scan.{IsOpen, IsTail}
 
 -- the bytes of the present batch that were not passed yet
@@ -77,11 +77,11 @@ TurnsIn bytes old new result =
     → IfOk result (λ more. MatchBool more (IsTurned new seen left) (left ≡ []))
 
 module _ {D : Type 0} (g : disk.Ghosts D) where
-  -- If an honest disk has what was read ahead, the reader passes a batch of it, or the gate at its place is closed. The
-  -- batches begin at this place of the disk.
-  abbrev pub WalksOn : {E : Type 0} → (begins : ℕ) → D → (old new : LogReader) → Result Bool E → Type 0
-  WalksOn begins d old new result =
-      IsTrue g.is_honest → HasAhead (drop begins (g.state d).contents) old
+  -- If the reads were true and the disk has what was read ahead, the reader passes a batch of it, or the gate at its place
+  -- is closed. The batches begin at this place of the disk.
+  abbrev pub WalksOn : {E : Type 0} → (begins : ℕ) → (d after : D) → (old new : LogReader) → Result Bool E → Type 0
+  WalksOn begins d after old new result =
+      IsTrue (g.reads_were_true after) → HasAhead (drop begins (g.state d).contents) old
       → IfOk result (λ more. MatchBool more (PassesBatch (drop begins (g.state d).contents) old new)
       (IsClosed (drop old.next (drop begins (g.state d).contents))))
 
@@ -92,14 +92,14 @@ module _ {D : Type 0} (g : disk.Ghosts D) where
       → (old.next < new.next) × EndsWithin (length (g.state d).contents - begins) new
 
 module _ {D : Type 0} {g : disk.Ghosts D} where
-  -- From an honest disk that is so,
-  abbrev pub Turns : {E : Type 0} → Log D g → (old new : LogReader) → Result Bool E → Type 0
-  Turns log old new result =
-      (front : List ℕ) (seen left : List (List ℕ)) → IsTrue g.is_honest → Reads front log (seen ++ left) → IsReadTo old seen left
+  -- If the reads were true that is so,
+  abbrev pub Turns : {E : Type 0} → (log after : Log D g) → (old new : LogReader) → Result Bool E → Type 0
+  Turns log after old new result =
+      (front : List ℕ) (seen left : List (List ℕ)) → IsTrue (g.reads_were_true (disk_of after)) → Reads front log (seen ++ left) → IsReadTo old seen left
       → IfOk result (λ more. MatchBool more (IsTurned new seen left) (left ≡ []))
 
   -- and there is no damage.
-  abbrev pub TurnsUndamaged : {T : Type 0} → Log D g → (old : LogReader) → Result T GateFault → Type 0
-  TurnsUndamaged log old result =
-      (front : List ℕ) (seen left : List (List ℕ)) → IsTrue g.is_honest → Reads front log (seen ++ left) → IsReadTo old seen left
+  abbrev pub TurnsUndamaged : {T : Type 0} → (log after : Log D g) → (old : LogReader) → Result T GateFault → Type 0
+  TurnsUndamaged log after old result =
+      (front : List ℕ) (seen left : List (List ℕ)) → IsTrue (g.reads_were_true (disk_of after)) → Reads front log (seen ++ left) → IsReadTo old seen left
       → IfErr result (λ e. e ≢ Damaged)

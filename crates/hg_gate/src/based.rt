@@ -3,7 +3,7 @@
 ghost use Rattle.std.specs.Prelude.{◌≡◌, ◌⊎◌, ◌+◌, ◌≤◌, ◌^◌, ◌++◌, ◌∷◌, [], ℕ, List, length, take, vec_capacity, false, IsTrue, IfOk, IfErr, OnOk, OnErr, IsErrOf, MatchOption};
 ghost use Rattle.hg_disk.specs.State.{IsDurable, counted};
 ghost use Rattle.hg_disk.specs.Calls.{CallsAtMost};
-ghost use Rattle.hg_disk.specs.Moments.{LeavesTorn};
+ghost use Rattle.hg_disk.specs.Moments.{LeavesTorn, WereTrueBefore};
 ghost use Rattle.hg_gate.specs.Based.{CutsToGate, FindsFile, OneCallABatchBased, PutsBehind};
 ghost use Rattle.hg_gate.specs.Batches.{FindsBase, IsNoLogFile, base_front, closed_gate};
 ghost use Rattle.hg_gate.specs.Gated.{LeavesClosed};
@@ -64,6 +64,7 @@ fn cut_to_gate<D: Disk>(disk: &mut D) -> Result<(), DiskFault>
     ensures cut { CutsToGate ⟦<D as Disk>⟧ disk.old disk.new result }
     ensures any_moment { LeavesClosed ⟦<D as Disk>⟧ disk.old disk.new }
     ensures calls { CallsAtMost ⟦<D as Disk>⟧ 1 disk.old disk.new }
+    ensures kept { WereTrueBefore ⟦<D as Disk>⟧ disk.old disk.new }
     ensures failures { D.failures disk.new ≡ counted result (D.failures disk.old) }
 {
     if disk.len() > 1 {
@@ -77,6 +78,7 @@ fn put_behind<D: Disk>(disk: &mut D, bytes: &[u8]) -> Result<(), DiskFault>
     ensures written { PutsBehind ⟦<D as Disk>⟧ bytes.now disk.old disk.new result }
     ensures any_moment { LeavesClosed ⟦<D as Disk>⟧ disk.old disk.new }
     ensures calls { CallsAtMost ⟦<D as Disk>⟧ 3 disk.old disk.new }
+    ensures kept { WereTrueBefore ⟦<D as Disk>⟧ disk.old disk.new }
     ensures failures { D.failures disk.new ≡ counted result (D.failures disk.old) }
 {
     cut_to_gate(disk)?;
@@ -144,15 +146,15 @@ impl<D: Disk> Log<D> {
     /// back: `Damaged` if the file is neither, `DeviceFault` or `OutOfMemory`. It changes nothing, and reads the file by
     /// pieces of `PIECE_LEN` bytes. If the disk was synced before, what the file has is durable.
     pub fn attach_file(alloc: Global, disk: D) -> Result<LogFile<D>, (GateFault, D)>
-        ensures reads { IsTrue D.is_honest → IfOk result IsFileOf }
-        ensures rests { IsTrue D.is_honest → IsDurable (D.state disk) → IfOk result RestsAs }
-        ensures damaged { IsTrue D.is_honest → IfErr result (IsNoFileIfDamaged (D.state disk).contents) }
+        ensures reads { IsTrue (D.reads_were_true (file_after result)) → IfOk result IsFileOf }
+        ensures rests { IsTrue (D.reads_were_true (file_after result)) → IsDurable (D.state disk) → IfOk result RestsAs }
+        ensures damaged { IsTrue (D.reads_were_true (file_after result)) → IfErr result (IsNoFileIfDamaged (D.state disk).contents) }
         ensures works { IfOk result works_as }
         ensures fault { IfErr result (λ e. IsDamagedOrDevice e.0 ⊎ (e.0 ≡ GateFault.OutOfMemory)) }
-        // At most as many device calls as the disk has bytes. On an honest disk that is spare: at most one. On one that
-        // holds a log: at most one per batch, and two more.
+        // At most as many device calls as the disk has bytes. If the reads were true, on a disk that is spare: at most one.
+        // On one that holds a log: at most one per batch, and two more.
         ensures disk { WasRead ⟦<D as Disk>⟧ (length (D.state disk).contents) disk (file_after result) }
-        ensures one_a_batch { IsTrue D.is_honest → OneCallABatchBased ⟦<D as Disk>⟧ disk (file_after result) }
+        ensures one_a_batch { IsTrue (D.reads_were_true (file_after result)) → OneCallABatchBased ⟦<D as Disk>⟧ disk (file_after result) }
 
         ensures device { D.failures (file_after result) ≡ failures_of_attaching result (D.failures disk) }
     {
@@ -197,6 +199,7 @@ impl<D: Disk> Log<D> {
 
         ensures fault { IfErr result IsBrokenOrDevice }
         ensures calls { CallsAtMost ⟦<D as Disk>⟧ 5 (disk_of self.old) (disk_of self.new) }
+        ensures kept { WereTrueBefore ⟦<D as Disk>⟧ (disk_of self.old) (disk_of self.new) }
         ensures device { D.failures (disk_of self.new) ≡ failures_after result (D.failures (disk_of self.old)) }
         ensures breaks { OnErr result (IsTrue (is_broken self.new)) }
         ensures works { OnOk result (is_broken self.new ≡ false) }
@@ -227,6 +230,7 @@ impl<D: Disk> Log<D> {
 
         ensures fault { IfErr result IsBrokenOrDevice }
         ensures calls { CallsAtMost ⟦<D as Disk>⟧ 2 (disk_of self.old) (disk_of self.new) }
+        ensures kept { WereTrueBefore ⟦<D as Disk>⟧ (disk_of self.old) (disk_of self.new) }
         ensures device { D.failures (disk_of self.new) ≡ failures_after result (D.failures (disk_of self.old)) }
         ensures breaks { OnErr result (IsTrue (is_broken self.new)) }
         ensures works { OnOk result (is_broken self.new ≡ false) }
@@ -243,13 +247,13 @@ impl<D: Disk> Log<D> {
 
 // What a file has: nothing if it is spare.
 fn find_file<D: Disk>(disk: &mut D, alloc: Global) -> Result<Option<Found>, GateFault>
-    ensures found { IsTrue D.is_honest → IfOk result (FindsFile (D.state disk.old).contents) }
+    ensures found { IsTrue (D.reads_were_true disk.new) → IfOk result (FindsFile (D.state disk.old).contents) }
     ensures fits { IfOk result (λ found. MatchOption found (Unit {0}) (λ it. 17 + it.len ≤ 2 ^ 62)) }
-    ensures damaged { IsTrue D.is_honest → IsErrOf result GateFault.Damaged → IsNoLogFile (D.state disk.old).contents }
+    ensures damaged { IsTrue (D.reads_were_true disk.new) → IsErrOf result GateFault.Damaged → IsNoLogFile (D.state disk.old).contents }
     ensures fault { IfErr result (λ e. IsDamagedOrDevice e ⊎ (e ≡ GateFault.OutOfMemory)) }
     ensures device { D.failures disk.new ≡ failures_after result (D.failures disk.old) }
     ensures reads { WasRead ⟦<D as Disk>⟧ (length (D.state disk.old).contents) disk.old disk.new }
-    ensures one_a_batch { IsTrue D.is_honest → OneCallABatchBased ⟦<D as Disk>⟧ disk.old disk.new }
+    ensures one_a_batch { IsTrue (D.reads_were_true disk.new) → OneCallABatchBased ⟦<D as Disk>⟧ disk.old disk.new }
 {
     let Some(base) = read_front(disk, alloc)? else {
         return Ok(None);
@@ -260,10 +264,10 @@ fn find_file<D: Disk>(disk: &mut D, alloc: Global) -> Result<Option<Found>, Gate
 
 // The base of a file, or none if it is spare. `Damaged` if the front of the file is neither.
 fn read_front<D: Disk>(disk: &mut D, alloc: Global) -> Result<Option<u64>, GateFault>
-    ensures found { IsTrue D.is_honest → IfOk result (FindsBase (D.state disk.old).contents) }
+    ensures found { IsTrue (D.reads_were_true disk.new) → IfOk result (FindsBase (D.state disk.old).contents) }
     ensures within { IfOk result (λ found. MatchOption found (Unit {0}) (λ _. 17 ≤ length (D.state disk.old).contents)) }
     ensures fits { OnOk result (length (D.state disk.old).contents ≤ 2 ^ 62) }
-    ensures damaged { IsTrue D.is_honest → IsErrOf result GateFault.Damaged → IsNoLogFile (D.state disk.old).contents }
+    ensures damaged { IsTrue (D.reads_were_true disk.new) → IsErrOf result GateFault.Damaged → IsNoLogFile (D.state disk.old).contents }
     ensures fault { IfErr result (λ e. IsDamagedOrDevice e ⊎ (e ≡ GateFault.OutOfMemory)) }
     ensures device { D.failures disk.new ≡ failures_after result (D.failures disk.old) }
     ensures reads { WasRead ⟦<D as Disk>⟧ 1 disk.old disk.new }

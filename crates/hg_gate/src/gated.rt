@@ -2,7 +2,7 @@
 ghost use Rattle.std.specs.Prelude.{◌≡◌, ◌+◌, ◌<◌, ◌≤◌, ◌^◌, ◌∷◌, [], ℕ, List, length, drop, false, IsTrue, OnOk, OnErr, IsErrOf, Err, IfOk, IfErr};
 ghost use Rattle.hg_disk.specs.State.{counted};
 ghost use Rattle.hg_disk.specs.Calls.{CallsAtMost};
-ghost use Rattle.hg_disk.specs.Moments.{LeavesTorn};
+ghost use Rattle.hg_disk.specs.Moments.{LeavesTorn, WereTrueBefore};
 ghost use Rattle.std.specs.Int.{w64, to_be_bytes};
 ghost use Rattle.hg_gate.specs.Gated.{HasFront, HasLength, HaveNoBody, IsNotOpen, LeavesClosed, ReplacesBody, TellsGate};
 ghost use Rattle.hg_gate.specs.Batches.{closed_gate, open_gate};
@@ -105,7 +105,7 @@ impl<D: Disk> Gated<D> {
 
         ensures fault { IfErr result IsBrokenOrDevice }
         ensures calls { CallsAtMost ⟦<D as Disk>⟧ 2 (disk_of self.old) (disk_of self.new) }
-        ensures kept { IsTrue (D.reads_were_true (disk_of self.new)) → IsTrue (D.reads_were_true (disk_of self.old)) }
+        ensures kept { WereTrueBefore ⟦<D as Disk>⟧ (disk_of self.old) (disk_of self.new) }
         ensures device { D.failures (disk_of self.new) ≡ failures_after result (D.failures (disk_of self.old)) }
         ensures works { OnOk result (is_broken self.new ≡ false) }
         ensures breaks { OnErr result (IsTrue (is_broken self.new)) }
@@ -129,7 +129,7 @@ impl<D: Disk> Gated<D> {
 
         ensures fault { IfErr result IsBrokenOrDevice }
         ensures calls { CallsAtMost ⟦<D as Disk>⟧ 4 (disk_of self.old) (disk_of self.new) }
-        ensures kept { IsTrue (D.reads_were_true (disk_of self.new)) → IsTrue (D.reads_were_true (disk_of self.old)) }
+        ensures kept { WereTrueBefore ⟦<D as Disk>⟧ (disk_of self.old) (disk_of self.new) }
         ensures device { D.failures (disk_of self.new) ≡ failures_after result (D.failures (disk_of self.old)) }
         ensures works { OnOk result (is_broken self.new ≡ false) }
         ensures breaks { OnErr result (IsTrue (is_broken self.new)) }
@@ -154,7 +154,7 @@ impl<D: Disk> Gated<D> {
 
         ensures fault { IfErr result IsBrokenOrDevice }
         ensures calls { CallsAtMost ⟦<D as Disk>⟧ 2 (disk_of self.old) (disk_of self.new) }
-        ensures kept { IsTrue (D.reads_were_true (disk_of self.new)) → IsTrue (D.reads_were_true (disk_of self.old)) }
+        ensures kept { WereTrueBefore ⟦<D as Disk>⟧ (disk_of self.old) (disk_of self.new) }
         ensures device { D.failures (disk_of self.new) ≡ failures_after result (D.failures (disk_of self.old)) }
         ensures works { OnOk result (is_broken self.new ≡ false) }
         ensures breaks { OnErr result (IsTrue (is_broken self.new)) }
@@ -202,8 +202,8 @@ impl<D: Disk> Gated<D> {
         alloc: Global,
         test: &T,
     ) -> Result<Option<Vec<u8>>, GateFault>
-        ensures read { IsTrue D.is_honest → IfOk result (HasBody (D.state (disk_of self.old)).contents) }
-        ensures damaged { TellsUnwanted ⟦<D as Disk>⟧ (T.wants test.now) self.old result }
+        ensures read { IsTrue (D.reads_were_true (disk_of self.new)) → IfOk result (HasBody (D.state (disk_of self.old)).contents) }
+        ensures damaged { TellsUnwanted ⟦<D as Disk>⟧ (T.wants test.now) self.old self.new result }
         ensures fits { OnOk result (length (D.state (disk_of self.old)).contents ≤ 2 ^ 62) }
 
         // The file stays as it is.
@@ -235,7 +235,7 @@ fn replace_body<D: Disk>(disk: &mut D, body: &[u8]) -> Result<(), DiskFault>
     ensures written { ReplacesBody ⟦<D as Disk>⟧ body.now disk.old disk.new result }
     ensures any_moment { LeavesClosed ⟦<D as Disk>⟧ disk.old disk.new }
     ensures calls { CallsAtMost ⟦<D as Disk>⟧ 4 disk.old disk.new }
-    ensures kept { IsTrue (D.reads_were_true disk.new) → IsTrue (D.reads_were_true disk.old) }
+    ensures kept { WereTrueBefore ⟦<D as Disk>⟧ disk.old disk.new }
     ensures failures { D.failures disk.new ≡ counted result (D.failures disk.old) }
 {
     disk.write_at(1, &(body.len() as u64).to_be_bytes())?;
@@ -290,9 +290,9 @@ fn read_head<D: Disk>(disk: &mut D, head: &mut [u8]) -> Result<u64, GateFault>
     requires { length head.old ≡ HEAD_LEN }
     ensures size { length head.new ≡ HEAD_LEN }
     ensures within { IfOk result (λ len. 9 + len ≤ length (D.state disk.old).contents) }
-    ensures bytes { IsTrue D.is_honest → IfOk result (HasLength (D.state disk.old).contents) }
-    ensures front { IsTrue D.is_honest → IfOk result (HasFront (D.state disk.old).contents head.new) }
-    ensures damaged { IsTrue D.is_honest → IsErrOf result GateFault.Damaged → IsNotOpen (D.state disk.old).contents }
+    ensures bytes { IsTrue (D.reads_were_true disk.new) → IfOk result (HasLength (D.state disk.old).contents) }
+    ensures front { IsTrue (D.reads_were_true disk.new) → IfOk result (HasFront (D.state disk.old).contents head.new) }
+    ensures damaged { IsTrue (D.reads_were_true disk.new) → IsErrOf result GateFault.Damaged → IsNotOpen (D.state disk.old).contents }
     ensures fault { IfErr result IsDamagedOrDevice }
     ensures device { D.failures disk.new ≡ failures_after result (D.failures disk.old) }
     ensures reads { WasRead ⟦<D as Disk>⟧ 1 disk.old disk.new }

@@ -2,6 +2,7 @@
 ghost use Rattle.std.specs.Prelude.{◌≡◌, ◌⊎◌, ◌+◌, ◌≤◌, ◌^◌, ◌++◌, ◌∷◌, [], ℕ, List, length, vec_capacity, false, IsTrue, IfOk, IfErr, OnOk, OnErr, IsErrOf, Ok, Err};
 ghost use Rattle.hg_disk.specs.State.{IsDurable};
 ghost use Rattle.hg_disk.specs.Calls.{CallsAtMost};
+ghost use Rattle.hg_disk.specs.Moments.{WereTrueBefore};
 ghost use Rattle.hg_gate.specs.Batches.{OneCallABatch, closed_gate, header, sized};
 ghost use Rattle.hg_gate.specs.declared.log.TheConstants.{MAX_FRAME};
 ghost use Rattle.hg_gate.specs.Reading.{RefusesIfBroken, WasRead};
@@ -93,7 +94,7 @@ impl<D: Disk> Log<D> {
         requires { length (D.state disk).contents ≡ 0 }
         ensures empty { IfOk result (IsEmptyOn header disk) }
         ensures calls { CallsAtMost ⟦<D as Disk>⟧ 2 disk (disk_after result) }
-        ensures kept { IsTrue (D.reads_were_true (disk_after result)) → IsTrue (D.reads_were_true disk) }
+        ensures kept { WereTrueBefore ⟦<D as Disk>⟧ disk (disk_after result) }
         ensures device { IfErr result (λ e. e.0 ≡ GateFault.DeviceFault → D.failures e.1 ≡ D.failures disk + 1) }
         ensures memory { IfErr result (FailedOrUncalled disk) }
     {
@@ -109,7 +110,7 @@ impl<D: Disk> Log<D> {
         requires { length (D.state disk).contents ≡ 0 }
         ensures empty { IfOk result (IsEmptyOn header disk) }
         ensures calls { CallsAtMost ⟦<D as Disk>⟧ 2 disk (disk_after result) }
-        ensures kept { IsTrue (D.reads_were_true (disk_after result)) → IsTrue (D.reads_were_true disk) }
+        ensures kept { WereTrueBefore ⟦<D as Disk>⟧ disk (disk_after result) }
         ensures device { IfErr result (λ e. (e.0 ≡ GateFault.DeviceFault) × (D.failures e.1 ≡ D.failures disk + 1)) }
     {
         let LogRoom { buffer } = room;
@@ -130,15 +131,15 @@ impl<D: Disk> Log<D> {
     /// `Damaged` if the bytes are not such a log's, `DeviceFault` or `OutOfMemory`. It changes nothing, and reads the file
     /// by pieces of `PIECE_LEN` bytes. If the disk was synced before, the batches are durable.
     pub fn attach(alloc: Global, disk: D) -> Result<Log<D>, (GateFault, D)>
-        ensures reads { IsTrue D.is_honest → IfOk result (ReadsSome header) }
-        ensures has { IsTrue D.is_honest → IsDurable (D.state disk) → IfOk result (HasSome header) }
-        ensures damaged { IsTrue D.is_honest → IfErr result (IsNoLogIfDamaged header (D.state disk).contents) }
+        ensures reads { IsTrue (D.reads_were_true (disk_after result)) → IfOk result (ReadsSome header) }
+        ensures has { IsTrue (D.reads_were_true (disk_after result)) → IsDurable (D.state disk) → IfOk result (HasSome header) }
+        ensures damaged { IsTrue (D.reads_were_true (disk_after result)) → IfErr result (IsNoLogIfDamaged header (D.state disk).contents) }
         ensures works { IfOk result (λ log. is_broken log ≡ false) }
         ensures fault { IfErr result (λ e. IsDamagedOrDevice e.0 ⊎ (e.0 ≡ GateFault.OutOfMemory)) }
-        // At most as many device calls as the disk has bytes. On an honest disk that holds a log: at most one per batch,
-        // and two more.
+        // At most as many device calls as the disk has bytes. If the reads were true, on a disk that holds a log: at most
+        // one per batch, and two more.
         ensures disk { WasRead ⟦<D as Disk>⟧ (length (D.state disk).contents) disk (disk_after result) }
-        ensures one_a_batch { IsTrue D.is_honest → OneCallABatch ⟦<D as Disk>⟧ header disk (disk_after result) }
+        ensures one_a_batch { IsTrue (D.reads_were_true (disk_after result)) → OneCallABatch ⟦<D as Disk>⟧ header disk (disk_after result) }
 
         ensures device { D.failures (disk_after result) ≡ failures_of_making result (D.failures disk) }
     {
@@ -185,7 +186,7 @@ impl<D: Disk> Log<D> {
 
         ensures fault { IfErr result IsBrokenOrDevice }
         ensures calls { CallsAtMost ⟦<D as Disk>⟧ 4 (disk_of self.old) (disk_of self.new) }
-        ensures kept { IsTrue (D.reads_were_true (disk_of self.new)) → IsTrue (D.reads_were_true (disk_of self.old)) }
+        ensures kept { WereTrueBefore ⟦<D as Disk>⟧ (disk_of self.old) (disk_of self.new) }
         ensures device { D.failures (disk_of self.new) ≡ failures_after result (D.failures (disk_of self.old)) }
         ensures breaks { OnErr result (IsTrue (is_broken self.new)) }
         ensures works { OnOk result (is_broken self.new ≡ false) }
@@ -231,8 +232,8 @@ impl<D: Disk> Log<D> {
     /// It makes one device call at most, of `PIECE_LEN` bytes, and none where the whole batch was read ahead. It takes
     /// memory for so many bytes.
     pub fn turn(&mut self, reader: &mut LogReader) -> Result<bool, GateFault>
-        ensures next { Turns self.old reader.old reader.new result }
-        ensures whole { TurnsUndamaged self.old reader.old result }
+        ensures next { Turns self.old self.new reader.old reader.new result }
+        ensures whole { TurnsUndamaged self.old self.new reader.old result }
         ensures again { OnErr result (reader.new ≡ reader.old) }
         ensures stays { result ≡ Ok false → reader.new ≡ reader.old }
 

@@ -55,13 +55,13 @@ fn fits(len: u32, room: u64) -> bool
 
 // How many bytes of batches a log without a base has.
 pub(crate) fn find_log<D: Disk>(disk: &mut D, alloc: Global) -> Result<u64, GateFault>
-    ensures found { IsTrue D.is_honest → IfOk result (EndsBehind header (D.state disk.old).contents) }
+    ensures found { IsTrue (D.reads_were_true disk.new) → IfOk result (EndsBehind header (D.state disk.old).contents) }
     ensures fits { IfOk result (λ len. 8 + len ≤ 2 ^ 62) }
-    ensures damaged { IsTrue D.is_honest → IsErrOf result GateFault.Damaged → IsNoLog header (D.state disk.old).contents }
+    ensures damaged { IsTrue (D.reads_were_true disk.new) → IsErrOf result GateFault.Damaged → IsNoLog header (D.state disk.old).contents }
     ensures fault { IfErr result (λ e. IsDamagedOrDevice e ⊎ (e ≡ GateFault.OutOfMemory)) }
     ensures device { D.failures disk.new ≡ failures_after result (D.failures disk.old) }
     ensures reads { WasRead ⟦<D as Disk>⟧ (length (D.state disk.old).contents) disk.old disk.new }
-    ensures one_a_batch { IsTrue D.is_honest → OneCallABatch ⟦<D as Disk>⟧ header disk.old disk.new }
+    ensures one_a_batch { IsTrue (D.reads_were_true disk.new) → OneCallABatch ⟦<D as Disk>⟧ header disk.old disk.new }
 {
     read_header(disk)?;
     find_end(disk, alloc, HEADER.len() as u64)
@@ -71,13 +71,13 @@ pub(crate) fn find_log<D: Disk>(disk: &mut D, alloc: Global) -> Result<u64, Gate
 pub(crate) fn find_end<D: Disk>(disk: &mut D, alloc: Global, begins: u64) -> Result<u64, GateFault>
     requires within { begins ≤ length (D.state disk.old).contents }
     requires small { length (D.state disk.old).contents ≤ 2 ^ 62 }
-    ensures found { IsTrue D.is_honest → IfOk result (EndsAt (drop begins (D.state disk.old).contents)) }
+    ensures found { IsTrue (D.reads_were_true disk.new) → IfOk result (EndsAt (drop begins (D.state disk.old).contents)) }
     ensures fits { IfOk result (λ len. begins + len ≤ 2 ^ 62) }
-    ensures damaged { TellsNoTail ⟦<D as Disk>⟧ begins 0 disk.old result }
+    ensures damaged { TellsNoTail ⟦<D as Disk>⟧ begins 0 disk.old disk.new result }
     ensures fault { IfErr result (λ e. IsDamagedOrDevice e ⊎ (e ≡ GateFault.OutOfMemory)) }
     ensures device { D.failures disk.new ≡ failures_after result (D.failures disk.old) }
     ensures reads { WasRead ⟦<D as Disk>⟧ (length (D.state disk.old).contents - begins + 1) disk.old disk.new }
-    ensures one_a_batch { IsTrue D.is_honest → OneCallABatchIn ⟦<D as Disk>⟧ begins disk.old disk.new }
+    ensures one_a_batch { IsTrue (D.reads_were_true disk.new) → OneCallABatchIn ⟦<D as Disk>⟧ begins disk.old disk.new }
 {
     let mut reader = LogReader::new(alloc);
     while go_on(disk, begins, alloc, &mut reader)? {}
@@ -94,10 +94,10 @@ pub(crate) fn go_on<D: Disk>(
 ) -> Result<bool, GateFault>
     requires within { begins + reader.old.next ≤ length (D.state disk.old).contents }
     requires fits { begins + reader.old.next ≤ 2 ^ 62 }
-    ensures next { IsTrue D.is_honest → TurnsIn (drop begins (D.state disk.old).contents) reader.old reader.new result }
-    ensures walks { WalksOn ⟦<D as Disk>⟧ begins disk.old reader.old reader.new result }
+    ensures next { IsTrue (D.reads_were_true disk.new) → TurnsIn (drop begins (D.state disk.old).contents) reader.old reader.new result }
+    ensures walks { WalksOn ⟦<D as Disk>⟧ begins disk.old disk.new reader.old reader.new result }
     ensures within { GoesOn ⟦<D as Disk>⟧ begins disk.old reader.old reader.new result }
-    ensures whole { TellsNoTail ⟦<D as Disk>⟧ begins reader.old.next disk.old result }
+    ensures whole { TellsNoTail ⟦<D as Disk>⟧ begins reader.old.next disk.old disk.new result }
     ensures again { OnErr result (reader.new ≡ reader.old) }
     ensures stays { result ≡ Ok false → reader.new ≡ reader.old }
     ensures fault { IfErr result (λ e. IsDamagedOrDevice e ⊎ (e ≡ GateFault.OutOfMemory)) }
@@ -113,10 +113,10 @@ pub(crate) fn go_on<D: Disk>(
 
 // `Damaged` if the file does not begin with the header.
 fn read_header<D: Disk>(disk: &mut D) -> Result<(), GateFault>
-    ensures found { IsTrue D.is_honest → OnOk result (BeginsWith header (D.state disk.old).contents) }
+    ensures found { IsTrue (D.reads_were_true disk.new) → OnOk result (BeginsWith header (D.state disk.old).contents) }
     ensures within { OnOk result (8 ≤ length (D.state disk.old).contents) }
     ensures fits { OnOk result (length (D.state disk.old).contents ≤ 2 ^ 62) }
-    ensures damaged { IsTrue D.is_honest → IsErrOf result GateFault.Damaged → IsNoLog header (D.state disk.old).contents }
+    ensures damaged { IsTrue (D.reads_were_true disk.new) → IsErrOf result GateFault.Damaged → IsNoLog header (D.state disk.old).contents }
     ensures fault { IfErr result IsDamagedOrDevice }
     ensures device { D.failures disk.new ≡ failures_after result (D.failures disk.old) }
     ensures reads { WasRead ⟦<D as Disk>⟧ 1 disk.old disk.new }
@@ -172,10 +172,10 @@ fn read_ahead<D: Disk>(
     reader: &mut LogReader,
 ) -> Result<bool, GateFault>
     requires within { begins + reader.old.next ≤ length (D.state disk.old).contents }
-    ensures next { IsTrue D.is_honest → TurnsIn (drop begins (D.state disk.old).contents) reader.old reader.new result }
-    ensures walks { WalksOn ⟦<D as Disk>⟧ begins disk.old reader.old reader.new result }
+    ensures next { IsTrue (D.reads_were_true disk.new) → TurnsIn (drop begins (D.state disk.old).contents) reader.old reader.new result }
+    ensures walks { WalksOn ⟦<D as Disk>⟧ begins disk.old disk.new reader.old reader.new result }
     ensures within { GoesOn ⟦<D as Disk>⟧ begins disk.old reader.old reader.new result }
-    ensures whole { TellsNoTail ⟦<D as Disk>⟧ begins reader.old.next disk.old result }
+    ensures whole { TellsNoTail ⟦<D as Disk>⟧ begins reader.old.next disk.old disk.new result }
     ensures again { OnErr result (reader.new ≡ reader.old) }
     ensures stays { result ≡ Ok false → reader.new ≡ reader.old }
     ensures fault { IfErr result (λ e. IsDamagedOrDevice e ⊎ (e ≡ GateFault.OutOfMemory)) }

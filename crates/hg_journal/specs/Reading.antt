@@ -87,43 +87,43 @@ module _ {D : Type 0} {g : disk.Ghosts D} (front : List ℕ) where
   -- A reader that had read the events `seen` finds bytes of a batch, or these were all events;
   abbrev pub FindsMoreBehind : {E : Type 0} → Journal D g → JournalReader → Journal D g → JournalReader → Result Bool E → Type 0
   FindsMoreBehind old before new after result =
-      (seen : List Named) → IsTrue g.is_honest → IsAtBehind old before seen
+      (seen : List Named) → IsTrue (g.reads_were_true (disk_of new)) → IsAtBehind old before seen
       → IfOk result (λ more. MatchBool more (IsAtBehind new after seen × (1 ≤ length (rest_of after))) (KeepsBehind new seen))
 
   -- and no damage.
-  abbrev pub FindsUndamagedBehind : {T : Type 0} → Journal D g → JournalReader → Result T Refusal → Type 0
-  FindsUndamagedBehind old before result = (seen : List Named) → IsTrue g.is_honest → IsAtBehind old before seen → IfErr result (λ e. e ≢ Damaged)
+  abbrev pub FindsUndamagedBehind : {T : Type 0} → Journal D g → JournalReader → Journal D g → Result T Refusal → Type 0
+  FindsUndamagedBehind old before new result = (seen : List Named) → IsTrue (g.reads_were_true (disk_of new)) → IsAtBehind old before seen → IfErr result (λ e. e ≢ Damaged)
 
   -- After an `Err` the reader is where it was,
   abbrev pub StaysOnErrBehind : {T E : Type 0} → Journal D g → JournalReader → Journal D g → JournalReader → Result T E → Type 0
   StaysOnErrBehind old before new after result = (seen : List Named) → IsAtBehind old before seen → OnErr result (IsAtBehind new after seen)
 
-  -- of an honest disk at least.
+  -- if the reads were true at least.
   abbrev pub CanBeTriedAgainBehind : {T E : Type 0} → Journal D g → JournalReader → Journal D g → JournalReader → Result T E → Type 0
   CanBeTriedAgainBehind old before new after result =
-      (seen : List Named) → IsTrue g.is_honest → IsAtBehind old before seen → OnErr result (IsAtBehind new after seen)
+      (seen : List Named) → IsTrue (g.reads_were_true (disk_of new)) → IsAtBehind old before seen → OnErr result (IsAtBehind new after seen)
 
   -- The reader has read one more event, or it had read all.
   abbrev pub ReadsNextBehind : {E : Type 0} → Journal D g → JournalReader → Journal D g → JournalReader → Result (Option Named) E → Type 0
   ReadsNextBehind old before new after result =
-      (seen : List Named) → IsTrue g.is_honest → IsAtBehind old before seen
+      (seen : List Named) → IsTrue (g.reads_were_true (disk_of new)) → IsAtBehind old before seen
       → IfOk result (λ found. MatchOption found (KeepsBehind new seen) (λ named. IsAtBehind new after (seen ++ named ∷ [])))
 
   -- If the answer is not 0, it has read this many more events;
   abbrev pub ReadsMoreBehind : {E : Type 0} → Journal D g → JournalReader → Journal D g → JournalReader → Result ℕ E → Type 0
   ReadsMoreBehind old before new after result =
-      (seen : List Named) → IsTrue g.is_honest → IsAtBehind old before seen
+      (seen : List Named) → IsTrue (g.reads_were_true (disk_of new)) → IsAtBehind old before seen
       → IfOk result (λ count. 1 ≤ count → (more : List Named) × (length more ≡ count) × IsAtBehind new after (seen ++ more))
 
   -- and if the answer is 0, it has read all.
   abbrev pub HasReadAllBehind : {E : Type 0} → Journal D g → JournalReader → Journal D g → Result ℕ E → Type 0
   HasReadAllBehind old before new result =
-      (seen : List Named) → IsTrue g.is_honest → IsAtBehind old before seen → IfOk result (λ count. count ≡ 0 → KeepsBehind new seen)
+      (seen : List Named) → IsTrue (g.reads_were_true (disk_of new)) → IsAtBehind old before seen → IfOk result (λ count. count ≡ 0 → KeepsBehind new seen)
 
   -- If damage is told, the bytes are not a journal's.
-  abbrev pub TellsTrueDamageBehind : {T : Type 0} → Journal D g → JournalReader → Result T Refusal → Type 0
-  TellsTrueDamageBehind old before result =
-      (seen : List Named) → IsTrue g.is_honest → IsAtBehind old before seen → IsErrOf result Damaged → IsNoJournalBehind front (g.state (disk_of old)).contents
+  abbrev pub TellsTrueDamageBehind : {T : Type 0} → Journal D g → JournalReader → Journal D g → Result T Refusal → Type 0
+  TellsTrueDamageBehind old before new result =
+      (seen : List Named) → IsTrue (g.reads_were_true (disk_of new)) → IsAtBehind old before seen → IsErrOf result Damaged → IsNoJournalBehind front (g.state (disk_of old)).contents
 
   -- The bytes that a read gives are a journal of the events that it keeps,
   abbrev pub ReadsKeptBehind : Journal D g → List Named → Type 0
@@ -177,8 +177,8 @@ module _ {D : Type 0} {g : disk.Ghosts D} where
   abbrev pub FindsMore : {E : Type 0} → Journal D g → JournalReader → Journal D g → JournalReader → Result Bool E → Type 0
   FindsMore old before new after result = FindsMoreBehind header old before new after result
 
-  abbrev pub FindsUndamaged : {T : Type 0} → Journal D g → JournalReader → Result T Refusal → Type 0
-  FindsUndamaged old before result = FindsUndamagedBehind header old before result
+  abbrev pub FindsUndamaged : {T : Type 0} → Journal D g → JournalReader → Journal D g → Result T Refusal → Type 0
+  FindsUndamaged old before new result = FindsUndamagedBehind header old before new result
 
   abbrev pub StaysOnErr : {T E : Type 0} → Journal D g → JournalReader → Journal D g → JournalReader → Result T E → Type 0
   StaysOnErr old before new after result = StaysOnErrBehind header old before new after result
@@ -195,8 +195,8 @@ module _ {D : Type 0} {g : disk.Ghosts D} where
   abbrev pub HasReadAll : {E : Type 0} → Journal D g → JournalReader → Journal D g → Result ℕ E → Type 0
   HasReadAll old before new result = HasReadAllBehind header old before new result
 
-  abbrev pub TellsTrueDamage : {T : Type 0} → Journal D g → JournalReader → Result T Refusal → Type 0
-  TellsTrueDamage old before result = TellsTrueDamageBehind header old before result
+  abbrev pub TellsTrueDamage : {T : Type 0} → Journal D g → JournalReader → Journal D g → Result T Refusal → Type 0
+  TellsTrueDamage old before new result = TellsTrueDamageBehind header old before new result
 
   abbrev pub ReadsKept : Journal D g → List Named → Type 0
   ReadsKept j events = ReadsKeptBehind header j events

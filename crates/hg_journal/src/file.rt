@@ -2,7 +2,7 @@
 ghost use Rattle.std.specs.Prelude.{◌≡◌, ◌+◌, ◌≤◌, ◌++◌, ◌∷◌, [], length, IsTrue, IfOk, IfErr, OnOk, OnErr, IsErrOf, Err, false};
 ghost use Rattle.hg_disk.specs.State.{IsDurable};
 ghost use Rattle.hg_disk.specs.Calls.{CallsAtMost};
-ghost use Rattle.hg_disk.specs.Moments.{LeavesTorn};
+ghost use Rattle.hg_disk.specs.Moments.{LeavesTorn, WereTrueBefore};
 ghost use Rattle.hg_gate.specs.Based.{OneCallABatchBased};
 ghost use Rattle.hg_gate.specs.Batches.{base_front, closed_gate};
 ghost use Rattle.hg_gate.specs.Reading.{WasRead};
@@ -69,14 +69,14 @@ impl<D: Disk> Journal<D> {
     /// neither spare nor a log with a base, `DeviceFault` or `OutOfMemory`. It changes nothing, and reads no events. If the
     /// disk was synced before, what the file has is durable.
     pub fn attach_file(alloc: Global, disk: D) -> Result<Attached<D>, (Refusal, D)>
-        ensures opens { IsTrue D.is_honest → IsDurable (D.state disk) → IfOk result OpensAs }
-        ensures damaged { IsTrue D.is_honest → IfErr result (IsNoFileIfDamaged (D.state disk).contents) }
+        ensures opens { IsTrue (D.reads_were_true (file_after result)) → IsDurable (D.state disk) → IfOk result OpensAs }
+        ensures damaged { IsTrue (D.reads_were_true (file_after result)) → IfErr result (IsNoFileIfDamaged (D.state disk).contents) }
         ensures works { IfOk result works_as }
         ensures fault { IfErr result (λ e. IsOfReading e.0) }
-        // At most as many device calls as the disk has bytes. On an honest disk that is spare: at most one. On one that
-        // holds a log: at most one per batch, and two more.
+        // At most as many device calls as the disk has bytes. If the reads were true, on a disk that is spare: at most one.
+        // On one that holds a log: at most one per batch, and two more.
         ensures disk { WasRead ⟦<D as Disk>⟧ (length (D.state disk).contents) disk (file_after result) }
-        ensures one_a_batch { IsTrue D.is_honest → OneCallABatchBased ⟦<D as Disk>⟧ disk (file_after result) }
+        ensures one_a_batch { IsTrue (D.reads_were_true (file_after result)) → OneCallABatchBased ⟦<D as Disk>⟧ disk (file_after result) }
 
         ensures device { D.failures (file_after result) ≡ failures_of_attaching result (D.failures disk) }
     {
@@ -104,6 +104,7 @@ impl<D: Disk> Journal<D> {
 
         ensures fault { IfErr result IsBrokenOrDevice }
         ensures calls { CallsAtMost ⟦<D as Disk>⟧ 5 (disk_of self.old) (disk_of self.new) }
+        ensures kept { WereTrueBefore ⟦<D as Disk>⟧ (disk_of self.old) (disk_of self.new) }
         ensures device { D.failures (disk_of self.new) ≡ failed_after result (D.failures (disk_of self.old)) }
         ensures breaks { OnErr result (IsTrue (is_broken self.new)) }
         ensures works { OnOk result (is_broken self.new ≡ false) }
@@ -130,6 +131,7 @@ impl<D: Disk> Journal<D> {
 
         ensures fault { IfErr result IsBrokenOrDevice }
         ensures calls { CallsAtMost ⟦<D as Disk>⟧ 2 (disk_of self.old) (disk_of self.new) }
+        ensures kept { WereTrueBefore ⟦<D as Disk>⟧ (disk_of self.old) (disk_of self.new) }
         ensures device { D.failures (disk_of self.new) ≡ failed_after result (D.failures (disk_of self.old)) }
         ensures breaks { OnErr result (IsTrue (is_broken self.new)) }
         ensures works { OnOk result (is_broken self.new ≡ false) }

@@ -3,6 +3,7 @@ ghost use Rattle.std.specs.Prelude.{◌≡◌, ◌+◌, ◌≤◌, ℕ, List, le
 ghost use Rattle.std.specs.List.{AllByRecursion};
 ghost use Rattle.hg_disk.specs.State.{IsDurable};
 ghost use Rattle.hg_disk.specs.Calls.{CallsAtMost};
+ghost use Rattle.hg_disk.specs.Moments.{WereTrueBefore};
 ghost use Rattle.hg_gate.specs.Reading.{WasRead};
 ghost use Rattle.hg_gate.specs.declared.batch.TheConstants.{MAX_BODY_LEN};
 ghost use Rattle.hg_gate.specs.Batch.{vec_of};
@@ -107,7 +108,7 @@ impl<D: Disk> Journal<D> {
         requires { length (D.state disk).contents ≡ 0 }
         ensures empty { IfOk result (IsEmptyOn disk) }
         ensures calls { CallsAtMost ⟦<D as Disk>⟧ 2 disk (disk_after result) }
-        ensures kept { IsTrue (D.reads_were_true (disk_after result)) → IsTrue (D.reads_were_true disk) }
+        ensures kept { WereTrueBefore ⟦<D as Disk>⟧ disk (disk_after result) }
         ensures device { IfErr result (λ e. e.0 ≡ Refusal.DeviceFault → D.failures e.1 ≡ D.failures disk + 1) }
         ensures memory { IfErr result (FailedOrUncalled disk) }
     {
@@ -123,7 +124,7 @@ impl<D: Disk> Journal<D> {
         requires { length (D.state disk).contents ≡ 0 }
         ensures empty { IfOk result (IsEmptyOn disk) }
         ensures calls { CallsAtMost ⟦<D as Disk>⟧ 2 disk (disk_after result) }
-        ensures kept { IsTrue (D.reads_were_true (disk_after result)) → IsTrue (D.reads_were_true disk) }
+        ensures kept { WereTrueBefore ⟦<D as Disk>⟧ disk (disk_after result) }
         ensures device { IfErr result (λ e. (e.0 ≡ Refusal.DeviceFault) × (D.failures e.1 ≡ D.failures disk + 1)) }
     {
         let JournalRoom { log, body } = room;
@@ -136,14 +137,14 @@ impl<D: Disk> Journal<D> {
     /// The journal that a disk holds. A refusal hands the disk back: `Damaged` if the bytes are not a log's, `DeviceFault`
     /// or `OutOfMemory`. It changes nothing, and reads no events. If the disk was synced before, the batches are durable.
     pub fn attach(alloc: Global, disk: D) -> Result<Journal<D>, (Refusal, D)>
-        ensures opens { IsTrue D.is_honest → IsDurable (D.state disk) → IfOk result OpensSome }
-        ensures damaged { IsTrue D.is_honest → IfErr result (IsNoJournalIfDamaged (D.state disk).contents) }
+        ensures opens { IsTrue (D.reads_were_true (disk_after result)) → IsDurable (D.state disk) → IfOk result OpensSome }
+        ensures damaged { IsTrue (D.reads_were_true (disk_after result)) → IfErr result (IsNoJournalIfDamaged (D.state disk).contents) }
         ensures works { IfOk result (λ journal. is_broken journal ≡ false) }
         ensures fault { IfErr result (λ e. IsOfReading e.0) }
-        // At most as many device calls as the disk has bytes. On an honest disk that holds a log: at most one per batch,
-        // and two more.
+        // At most as many device calls as the disk has bytes. If the reads were true, on a disk that holds a log: at most
+        // one per batch, and two more.
         ensures disk { WasRead ⟦<D as Disk>⟧ (length (D.state disk).contents) disk (disk_after result) }
-        ensures one_a_batch { IsTrue D.is_honest → OneCallABatch ⟦<D as Disk>⟧ header disk (disk_after result) }
+        ensures one_a_batch { IsTrue (D.reads_were_true (disk_after result)) → OneCallABatch ⟦<D as Disk>⟧ header disk (disk_after result) }
 
         ensures device { D.failures (disk_after result) ≡ failures_of_making result (D.failures disk) }
     {
@@ -186,7 +187,7 @@ impl<D: Disk> Journal<D> {
 
         ensures fault { IfErr result IsBrokenOrDevice }
         ensures calls { CallsAtMost ⟦<D as Disk>⟧ 4 (disk_of self.old) (disk_of self.new) }
-        ensures kept { IsTrue (D.reads_were_true (disk_of self.new)) → IsTrue (D.reads_were_true (disk_of self.old)) }
+        ensures kept { WereTrueBefore ⟦<D as Disk>⟧ (disk_of self.old) (disk_of self.new) }
         ensures device { D.failures (disk_of self.new) ≡ failed_after result (D.failures (disk_of self.old)) }
         ensures broken { IsErrOf result Refusal.Broken → IsTrue (is_broken self.old) }
         ensures breaks { OnErr result (IsTrue (is_broken self.new)) }

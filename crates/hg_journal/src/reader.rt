@@ -64,7 +64,7 @@ impl<D: Disk> Journal<D> {
     #[inline(always)]
     fn find(&mut self, reader: &mut JournalReader) -> Result<bool, Refusal>
         ensures found { (front : List ℕ) → FindsMoreBehind front self.old reader.old self.new reader.new result }
-        ensures whole { (front : List ℕ) → FindsUndamagedBehind front self.old reader.old result }
+        ensures whole { (front : List ℕ) → FindsUndamagedBehind front self.old reader.old self.new result }
         ensures again { (front : List ℕ) → StaysOnErrBehind front self.old reader.old self.new reader.new result }
         ensures keeps { (events : List NamedOf) → KeepsEvents self.old events → KeepsEvents self.new events }
         ensures opens { (bodies : List (List ℕ)) → Opens self.old bodies → Opens self.new bodies }
@@ -92,7 +92,7 @@ impl<D: Disk> Journal<D> {
         requires works { is_broken self.old ≡ false }
         requires read { rest_of reader.old ≡ [] }
         ensures found { (front : List ℕ) → FindsMoreBehind front self.old reader.old self.new reader.new result }
-        ensures whole { (front : List ℕ) → FindsUndamagedBehind front self.old reader.old result }
+        ensures whole { (front : List ℕ) → FindsUndamagedBehind front self.old reader.old self.new result }
         ensures again { (front : List ℕ) → StaysOnErrBehind front self.old reader.old self.new reader.new result }
         ensures keeps { (events : List NamedOf) → KeepsEvents self.old events → KeepsEvents self.new events }
         ensures opens { (bodies : List (List ℕ)) → Opens self.old bodies → Opens self.new bodies }
@@ -117,8 +117,8 @@ impl<D: Disk> Journal<D> {
     pub fn next(&mut self, reader: &mut JournalReader) -> Result<Option<Named>, Refusal>
         ensures next { ReadsNext self.old reader.old self.new reader.new result }
         ensures next_behind { (front : List ℕ) → ReadsNextBehind front self.old reader.old self.new reader.new result }
-        ensures damaged { TellsTrueDamage self.old reader.old result }
-        ensures damaged_behind { (front : List ℕ) → TellsTrueDamageBehind front self.old reader.old result }
+        ensures damaged { TellsTrueDamage self.old reader.old self.new result }
+        ensures damaged_behind { (front : List ℕ) → TellsTrueDamageBehind front self.old reader.old self.new result }
         ensures again { CanBeTriedAgain self.old reader.old self.new reader.new result }
         ensures again_behind { (front : List ℕ) →
             CanBeTriedAgainBehind front self.old reader.old self.new reader.new result }
@@ -155,8 +155,8 @@ impl<D: Disk> Journal<D> {
             ReadsMoreBehind front self.old reader.old self.new reader.new result }
         ensures at_end { HasReadAll self.old reader.old self.new result }
         ensures at_end_behind { (front : List ℕ) → HasReadAllBehind front self.old reader.old self.new result }
-        ensures damaged { TellsTrueDamage self.old reader.old result }
-        ensures damaged_behind { (front : List ℕ) → TellsTrueDamageBehind front self.old reader.old result }
+        ensures damaged { TellsTrueDamage self.old reader.old self.new result }
+        ensures damaged_behind { (front : List ℕ) → TellsTrueDamageBehind front self.old reader.old self.new result }
         ensures again { CanBeTriedAgain self.old reader.old self.new reader.new result }
         ensures again_behind { (front : List ℕ) →
             CanBeTriedAgainBehind front self.old reader.old self.new reader.new result }

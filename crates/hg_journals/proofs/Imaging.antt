@@ -18,8 +18,8 @@ module _ {D : Type 0} (g : disk.Ghosts D) where
   -- two disks, each with what it leaves
   pub both : (a b c d : D) (P Q : List ℕ → Type 0) (R : List ℕ → List ℕ → Type 0) → LeavesOnly g a b P → LeavesOnly g c d Q → ((one other : List ℕ) → P one → Q other → R one other) → EachImage g a b c d R
   both a b c d P Q R first second joins = record {
-    first_goes = (first.later, first.has_gone);
-    second_goes = (second.later, second.has_gone);
+    first_goes = (first.later, first.has_gone, first.kept);
+    second_goes = (second.later, second.has_gone, second.kept);
     each = λ one other may_one may_other. joins one other (may_leave g a b P one first may_one) (may_leave g c d Q other second may_other);
   }
 

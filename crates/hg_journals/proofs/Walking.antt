@@ -6,6 +6,7 @@ use Rattle.hg_model.specs.declared.verdict.Refusal.TheVariants.{Broken, Damaged}
 use Rattle.std.proofs.lemmas.Bool.{true≢false}
 use Rattle.hg_disk.specs.declared.disk.Disk as disk
 use Rattle.hg_disk.specs.State.{DiskState, IsImage, settled}
+use Rattle.hg_disk.specs.Moments.{WereTrueBefore}
 use Rattle.hg_disk.proofs.Moments.{started}
 use Rattle.hg_gate.specs.Batches.{IsClosed, IsLog, base_front}
 use Rattle.hg_gate.specs.Log.{Has}
@@ -18,7 +19,7 @@ use Rattle.hg_journal.specs.Reading.{IsAtBehind, KeepsBehind, disk_of}
 use Rattle.hg_journal.specs.Reading as journal
 use Rattle.hg_journal.proofs.Journaling.{bytes_now, more}
 use Rattle.hg_journal.proofs.Journals.{one_reading}
-use Rattle.hg_journals.specs.Pairs.{Keeps, KeepsFormer, first_of, newer, older, second_of}
+use Rattle.hg_journals.specs.Pairs.{Keeps, KeepsFormer, ReadsWereTrue, first_of, newer, older, second_of}
 use Rattle.hg_journals.specs.Reading.{HasRead, IsSameButFiles, Reads, ReadsNewer}
 use Rattle.hg_journals.specs.declared.pair.JournalPair.{JournalPair}
 
@@ -46,6 +47,22 @@ or_broken (Ok value) is = tt
 or_broken (Err e) is = inl is
 
 module _ {D : Type 0} (g : disk.Ghosts D) where
+  before : (turned : Bool) (a b c d : D) → WereTrueBefore g (if turned then c else a) (if turned then d else b) → WereTrueBefore g (if turned then a else c) (if turned then b else d)
+      → IsTrue (g.reads_were_true b) × IsTrue (g.reads_were_true d) → IsTrue (g.reads_were_true a) × IsTrue (g.reads_were_true c)
+  before true a b c d first second were = (second were.0, first were.1)
+  before false a b c d first second were = (first were.0, second were.1)
+
+  -- if the reads were true after a call that reads, so were those before it
+  pub true_before : {T : Type 0} (most : ℕ) (old new : JournalPair D g) (result : Result T Refusal) → Reads most old new result → ReadsWereTrue new → ReadsWereTrue old
+  true_before most old new result r were =
+      before old.is_turned (older old) (older new) (newer old) (newer new)
+      (subst (λ (turned : Bool). WereTrueBefore g (first_of old) (if turned then newer new else older new)) r.same.turn r.first.any_moment.kept)
+      (subst (λ (turned : Bool). WereTrueBefore g (second_of old) (if turned then older new else newer new)) r.same.turn r.second.any_moment.kept) were
+
+  -- those of the file that is not the current one, where that was not called
+  pub older_true : (old new : JournalPair D g) → new.older ≡ old.older → ReadsWereTrue new → IsTrue (g.reads_were_true (older old))
+  older_true old new same were = subst (λ (j : Journal D g). IsTrue (g.reads_were_true (disk_of j))) same were.0
+
   -- a file that was only read keeps what it kept
   pub former_stays : (spare : Bool) (j k : Journal D g) (base : ℕ) (former : List Named) → g.state (disk_of k) ≡ g.state (disk_of j) → journal.is_broken k ≡ journal.is_broken j → journal.StaysKept j k
       → KeepsFormer spare j base former → KeepsFormer spare k base former

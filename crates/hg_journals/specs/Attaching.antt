@@ -54,14 +54,14 @@ module _ {D : Type 0} {g : disk.Ghosts D} where
   abbrev pub OpensSome : Journal D g → (base : ℕ) → Type 0
   OpensSome j base = (bodies : List (List ℕ)) × OpensBehind (base_front base) j bodies
 
-  -- If an honest disk has batches behind the base, they have events up to the number that is found,
+  -- If the reads were true and the disk has batches behind the base, they have events up to the number that is found,
   abbrev pub FindsLast : {E : Type 0} → (base : ℕ) → (old new : Journal D g) → Result ℕ E → Type 0
-  FindsLast base old new result = IsTrue g.is_honest → OpensSome old base → IfOk result (HasUpTo new base)
+  FindsLast base old new result = IsTrue (g.reads_were_true (journal.disk_of new)) → OpensSome old base → IfOk result (HasUpTo new base)
 
   -- and if it is damaged, they have none, or too many.
-  abbrev pub FindsNone : {T : Type 0} → (base : ℕ) → Journal D g → Result T Refusal → Type 0
-  FindsNone base old result =
-      IsTrue g.is_honest → OpensSome old base → IsErrOf result Damaged
+  abbrev pub FindsNone : {T : Type 0} → (base : ℕ) → (old new : Journal D g) → Result T Refusal → Type 0
+  FindsNone base old new result =
+      IsTrue (g.reads_were_true (journal.disk_of new)) → OpensSome old base → IsErrOf result Damaged
       → (events : List Named) → IsJournalBehind (base_front base) (g.state (journal.disk_of old)).contents events → ¬ (base + length events ≤ MAX_BASE)
 
   -- The second file begins where the first ends, and the first has events.

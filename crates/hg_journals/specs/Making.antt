@@ -1,5 +1,5 @@
 -- A pair made on two empty disks, or of two files.
-use Rattle.std.specs.Prelude.{◌≡◌, ◌⊎◌, ◌+◌, ℕ, List, [], ◌∷◌, ◌++◌, Result, Ok, Err}
+use Rattle.std.specs.Prelude.{IsTrue, ◌≡◌, ◌⊎◌, ◌+◌, ℕ, List, [], ◌∷◌, ◌++◌, Result, Ok, Err}
 use Rattle.hg_model.specs.declared.verdict.Refusal.{Refusal}
 use Rattle.hg_model.specs.declared.verdict.Refusal.TheVariants.{Damaged}
 use Rattle.hg_disk.specs.State.{IsDurable, counted, settled}
@@ -57,6 +57,10 @@ module _ {D : Type 0} (g : disk.Ghosts D) where
   abbrev pub CountsMaking : (journal0 journal1 : D) → Result (JournalPair D g) (D × D) → Type 0
   CountsMaking journal0 journal1 result =
       g.failures (first_made result) + g.failures (second_made result) ≡ counted result (g.failures journal0 + g.failures journal1)
+
+  -- The reads of both disks were true.
+  abbrev pub WereTrue : (journal0 journal1 : D) → Type 0
+  WereTrue journal0 journal1 = IsTrue (g.reads_were_true journal0) × IsTrue (g.reads_were_true journal1)
 
   -- Both disks are durable.
   abbrev pub AreDurable : (journal0 journal1 : D) → Type 0

@@ -52,6 +52,10 @@ module _ {D : Type 0} {g : disk.Ghosts D} where
   abbrev pub second_of : JournalPair D g → D
   second_of p = if p.is_turned then older p else newer p
 
+  -- The reads of both files so far were true.
+  abbrev pub ReadsWereTrue : JournalPair D g → Type 0
+  ReadsWereTrue p = IsTrue (g.reads_were_true (older p)) × IsTrue (g.reads_were_true (newer p))
+
   -- how many calls of the two disks have failed
   abbrev pub failures : JournalPair D g → ℕ
   failures p = g.failures (first_of p) + g.failures (second_of p)

@@ -9,7 +9,7 @@ use Rattle.hg_gate.specs.Reading.{WasRead}
 use Rattle.hg_journal.specs.declared.journal.JournalReader.{JournalReader}
 use Rattle.hg_journal.specs.Journal.{IsOfReading, failed_after}
 use Rattle.hg_journal.specs.Reading.{IsAtBehind}
-use Rattle.hg_journals.specs.Pairs.{Keeps, KeepsFormer, failures, first_of, is_broken, newer, second_of}
+use Rattle.hg_journals.specs.Pairs.{Keeps, KeepsFormer, ReadsWereTrue, failures, first_of, is_broken, newer, second_of}
 use Rattle.hg_journals.specs.declared.pair.JournalPair.{JournalPair}
 use Rattle.hg_journals.specs.declared.reader.PairReader.{PairReader}
 
@@ -30,10 +30,10 @@ module _ {D : Type 0} {g : disk.Ghosts D} where
   abbrev pub BeginsAtFirst : {E : Type 0} → JournalPair D g → Result PairReader E → Type 0
   BeginsAtFirst p result = (base : ℕ) (events : List Named) → Keeps p base events → IfOk result (λ reader. IsAt p reader [])
 
-  -- what holds of a pair over an honest disk that keeps events behind a base, where some events were read
-  abbrev pub Where : (in_newer : Bool) → JournalPair D g → JournalReader → (ℕ → List Named → List Named → Type 0) → Type 0
-  Where in_newer p r P =
-      (base : ℕ) (events seen : List Named) → IsTrue g.is_honest → Keeps p base events → HasRead in_newer p r seen → P base events seen
+  -- what holds of a pair that keeps events behind a base, where some events were read, if the reads up to `new` were true
+  abbrev pub Where : (in_newer : Bool) → JournalPair D g → JournalReader → (new : JournalPair D g) → (ℕ → List Named → List Named → Type 0) → Type 0
+  Where in_newer p r new P =
+      (base : ℕ) (events seen : List Named) → ReadsWereTrue new → Keeps p base events → HasRead in_newer p r seen → P base events seen
 
   -- One more event was read, or all had been read.
   abbrev pub HasNext : (in_newer : Bool) → JournalPair D g → JournalReader → (events seen : List Named) → Option Named → Type 0
@@ -51,21 +51,21 @@ module _ {D : Type 0} {g : disk.Ghosts D} where
   -- The reader has read one more event, or it had read all.
   abbrev pub ReadsNext : {E : Type 0} → JournalPair D g → PairReader → JournalPair D g → PairReader → Result (Option Named) E → Type 0
   ReadsNext old before new after result =
-      Where before.in_newer old before.reader (λ base events seen. IfOk result (HasNext after.in_newer new after.reader events seen))
+      Where before.in_newer old before.reader new (λ base events seen. IfOk result (HasNext after.in_newer new after.reader events seen))
 
   -- It has read so many more events, one at least; or the answer is 0, and it had read all.
   abbrev pub ReadsMore : {E : Type 0} → JournalPair D g → PairReader → JournalPair D g → PairReader → Result ℕ E → Type 0
   ReadsMore old before new after result =
-      Where before.in_newer old before.reader (λ base events seen. IfOk result (HasMore after.in_newer new after.reader events seen))
+      Where before.in_newer old before.reader new (λ base events seen. IfOk result (HasMore after.in_newer new after.reader events seen))
 
   -- After an `Err` the reader is where it was, and there is no damage.
   abbrev pub StaysOnErr : {T : Type 0} → JournalPair D g → PairReader → JournalPair D g → PairReader → Result T Refusal → Type 0
   StaysOnErr old before new after result =
-      Where before.in_newer old before.reader (λ base events seen. IfErr result (HasStayed after.in_newer new after.reader seen))
+      Where before.in_newer old before.reader new (λ base events seen. IfErr result (HasStayed after.in_newer new after.reader seen))
 
   -- The pair keeps its events.
   abbrev pub KeepsWhereRead : JournalPair D g → PairReader → JournalPair D g → Type 0
-  KeepsWhereRead old before new = Where before.in_newer old before.reader (λ base events seen. Keeps new base events)
+  KeepsWhereRead old before new = Where before.in_newer old before.reader new (λ base events seen. Keeps new base events)
 
   -- Each reader has read what it had read before, and so goes on to the new events.
   abbrev pub KeepsReaders : {T E : Type 0} → (old new : JournalPair D g) → Result T E → Type 0
@@ -111,25 +111,25 @@ module _ {D : Type 0} {g : disk.Ghosts D} where
 
   -- The same where the current file is read,
   abbrev pub NextInNewer : {E : Type 0} → JournalPair D g → JournalReader → JournalPair D g → JournalReader → Result (Option Named) E → Type 0
-  NextInNewer old before new after result = Where true old before (λ base events seen. IfOk result (HasNext true new after events seen))
+  NextInNewer old before new after result = Where true old before new (λ base events seen. IfOk result (HasNext true new after events seen))
 
   abbrev pub StaysInNewer : {T : Type 0} → JournalPair D g → JournalReader → JournalPair D g → JournalReader → Result T Refusal → Type 0
-  StaysInNewer old before new after result = Where true old before (λ base events seen. IfErr result (HasStayed true new after seen))
+  StaysInNewer old before new after result = Where true old before new (λ base events seen. IfErr result (HasStayed true new after seen))
 
   -- or is begun, behind all events of the other.
-  abbrev pub Behind : JournalPair D g → (ℕ → List Named → List Named → Type 0) → Type 0
-  Behind p P =
-      (base : ℕ) (events former : List Named) → IsTrue g.is_honest → Keeps p base events → KeepsFormer p.has_spare p.older p.base former
+  abbrev pub Behind : (p new : JournalPair D g) → (ℕ → List Named → List Named → Type 0) → Type 0
+  Behind p new P =
+      (base : ℕ) (events former : List Named) → ReadsWereTrue new → Keeps p base events → KeepsFormer p.has_spare p.older p.base former
       → P base events former
 
   abbrev pub NextBehind : {E : Type 0} → JournalPair D g → JournalPair D g → JournalReader → Result (Option Named) E → Type 0
-  NextBehind old new after result = Behind old (λ base events former. IfOk result (HasNext true new after events former))
+  NextBehind old new after result = Behind old new (λ base events former. IfOk result (HasNext true new after events former))
 
   abbrev pub StaysBehind : {T : Type 0} → JournalPair D g → JournalPair D g → JournalReader → Result T Refusal → Type 0
-  StaysBehind old new after result = Behind old (λ base events former. IfErr result (HasStayed true new after former))
+  StaysBehind old new after result = Behind old new (λ base events former. IfErr result (HasStayed true new after former))
 
   abbrev pub MoreInNewer : {E : Type 0} → JournalPair D g → JournalReader → JournalPair D g → JournalReader → Result ℕ E → Type 0
-  MoreInNewer old before new after result = Where true old before (λ base events seen. IfOk result (HasMore true new after events seen))
+  MoreInNewer old before new after result = Where true old before new (λ base events seen. IfOk result (HasMore true new after events seen))
 
   abbrev pub MoreBehind : {E : Type 0} → JournalPair D g → JournalPair D g → JournalReader → Result ℕ E → Type 0
-  MoreBehind old new after result = Behind old (λ base events former. IfOk result (HasMore true new after events former))
+  MoreBehind old new after result = Behind old new (λ base events former. IfOk result (HasMore true new after events former))

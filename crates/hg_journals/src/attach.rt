@@ -5,7 +5,7 @@ ghost use Rattle.hg_journal.specs.Journal.{IsOfReading};
 ghost use Rattle.hg_journal.specs.File.{IsSpare};
 ghost use Rattle.hg_journal.specs.Reading as journals;
 ghost use Rattle.hg_journals.specs.Attaching.{CountsBoth, GoesOnIn, HasUpTo, IsReadThrough, KeepIfRead, KeepNothingIfRead, count_of, disk_in, most_calls, works_in};
-ghost use Rattle.hg_journals.specs.Making.{AreDurable, CountsAttaching, KeepNothingIfDamaged, first_after, second_after};
+ghost use Rattle.hg_journals.specs.Making.{AreDurable, CountsAttaching, KeepNothingIfDamaged, WereTrue, first_after, second_after};
 ghost use Rattle.hg_journals.specs.Pairs.{KeepsSome, base_of, first_of, is_broken, is_turned, last_of, newer, older, second_of};
 
 use crate::count::read_file;
@@ -137,8 +137,8 @@ impl<D: Disk> JournalPair<D> {
         journal0: D,
         journal1: D,
     ) -> Result<JournalPair<D>, (Refusal, D, D)>
-        ensures keeps { IsTrue D.is_honest → AreDurable ⟦<D as Disk>⟧ journal0 journal1 → IfOk result KeepsSome }
-        ensures damaged { IsTrue D.is_honest → AreDurable ⟦<D as Disk>⟧ journal0 journal1 →
+        ensures keeps { WereTrue ⟦<D as Disk>⟧ (first_after result) (second_after result) → AreDurable ⟦<D as Disk>⟧ journal0 journal1 → IfOk result KeepsSome }
+        ensures damaged { WereTrue ⟦<D as Disk>⟧ (first_after result) (second_after result) → AreDurable ⟦<D as Disk>⟧ journal0 journal1 →
             IfErr result (KeepNothingIfDamaged ⟦<D as Disk>⟧ journal0 journal1) }
         ensures works { IfOk result (λ pair. is_broken pair ≡ false) }
         ensures fault { IfErr result (λ e. IsOfReading e.0) }

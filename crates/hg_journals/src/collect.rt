@@ -1,7 +1,7 @@
 //! Reading the events of a pair from a number on.
 ghost use Rattle.std.specs.Prelude.{◌≡◌, ◌≢◌, ◌+◌, ◌-◌, ◌<◌, ◌≤◌, length, IsTrue, IsOk, IfOk, IfErr, Err, false};
 ghost use Rattle.hg_journals.specs.Pairs.{StaysKept, base_of, is_broken, newer_base_of};
-ghost use Rattle.hg_journals.specs.Collecting.{BeginsBefore, BeginsBehind, Collects, HasOutside, IfKeeps, KeepsIfHonest, TakesNext, TakesUndamaged, passed_to, wanted_from};
+ghost use Rattle.hg_journals.specs.Collecting.{BeginsBefore, BeginsBehind, Collects, HasOutside, IfKeeps, KeepsIfTrue, TakesNext, TakesUndamaged, passed_to, wanted_from};
 ghost use Rattle.hg_journals.specs.Reading.{LeavesOlder, Reads};
 
 use crate::pair::JournalPair;
@@ -40,10 +40,10 @@ impl<D: Disk> JournalPair<D> {
     /// that place is in the current file, the other one is not called.
     pub fn events_behind(&mut self, count: u64) -> Result<PairReader, Refusal>
         ensures first { BeginsBehind count self.old self.new result }
-        ensures damaged { IfKeeps self.old (λ base events. result ≡ Err Refusal.Damaged → HasOutside count self.old) }
+        ensures damaged { IfKeeps self.old self.new (λ base events. result ≡ Err Refusal.Damaged → HasOutside count self.old) }
         ensures outside { is_broken self.old ≡ false → HasOutside count self.old →
             (result ≡ Err Refusal.Damaged) × (self.new ≡ self.old) }
-        ensures keeps { KeepsIfHonest self.old self.new }
+        ensures keeps { KeepsIfTrue self.old self.new }
         ensures older { newer_base_of self.old ≤ count → IfOk result (λ reader. IsTrue reader.in_newer) ×
             (self.new.older ≡ self.old.older) }
         ensures reads { Reads (count - base_of self.old) self.old self.new result }
@@ -73,8 +73,8 @@ impl<D: Disk> JournalPair<D> {
         count: u64,
     ) -> Result<Vec<Named>, Refusal>
         requires works { is_broken self.old ≡ false }
-        ensures found { TakesNext count self.old reader.old result }
-        ensures whole { TakesUndamaged self.old reader.old result }
+        ensures found { TakesNext count self.old reader.old self.new result }
+        ensures whole { TakesUndamaged self.old reader.old self.new result }
         ensures few { IfOk result (λ found. length found.items ≤ count) }
         ensures keeps { StaysKept self.old self.new }
         ensures older { LeavesOlder self.old reader.old self.new reader.new }
@@ -97,12 +97,12 @@ impl<D: Disk> JournalPair<D> {
     /// last one that it finds, none of the other file if they are all in the current one, and none if it finds none. It
     /// takes memory for what it finds, and with a device call.
     pub fn collect(&mut self, alloc: Global, from: u64, max: usize) -> Result<Vec<Named>, Refusal>
-        ensures found { Collects from max self.old result }
-        ensures whole { IfKeeps self.old (λ base events. IfErr result (λ e. e ≢ Refusal.Damaged)) }
+        ensures found { Collects from max self.old self.new result }
+        ensures whole { IfKeeps self.old self.new (λ base events. IfErr result (λ e. e ≢ Refusal.Damaged)) }
         ensures few { IfOk result (λ found. length found.items ≤ wanted_from from max self.old) }
         ensures none { is_broken self.old ≡ false → wanted_from from max self.old ≡ 0 →
             IsOk result × (self.new ≡ self.old) }
-        ensures keeps { KeepsIfHonest self.old self.new }
+        ensures keeps { KeepsIfTrue self.old self.new }
         ensures older { newer_base_of self.old < from → self.new.older ≡ self.old.older }
         ensures reads { Reads (passed_to from self.old + wanted_from from max self.old) self.old self.new result }
     {

@@ -20,7 +20,7 @@ use std::alloc::Global;
 fn find_last<D: Disk>(journal: &mut Journal<D>, base: u64) -> Result<u64, Refusal>
     requires works { is_broken journal.old ≡ false }
     ensures found { FindsLast base journal.old journal.new result }
-    ensures damaged { FindsNone base journal.old result }
+    ensures damaged { FindsNone base journal.old journal.new result }
     ensures fits { IfOk result (λ last. (base ≤ last) × (last ≤ MAX_BASE_OF)) }
     ensures few { IfOk result (λ n. IsCounted ⟦<D as Disk>⟧ (disk_of journal.old) (disk_of journal.new) (n - base)) }
     ensures works { is_broken journal.new ≡ false }
@@ -43,8 +43,8 @@ fn find_last<D: Disk>(journal: &mut Journal<D>, base: u64) -> Result<u64, Refusa
 // An open file with this base, read through.
 fn read_open<D: Disk>(base: u64, journal: Journal<D>) -> Result<ReadFile<D>, (Refusal, D)>
     requires works { is_broken journal ≡ false }
-    ensures read { IsTrue D.is_honest → OpensSome journal base → IfOk result IsAsRead }
-    ensures damaged { IsTrue D.is_honest → OpensSome journal base → base ≤ MAX_BASE_OF →
+    ensures read { IsTrue (D.reads_were_true (file_after result)) → OpensSome journal base → IfOk result IsAsRead }
+    ensures damaged { IsTrue (D.reads_were_true (file_after result)) → OpensSome journal base → base ≤ MAX_BASE_OF →
         IfErr result (IsNoneIfDamaged (D.state (disk_of journal)).contents) }
     ensures works { IfOk result (λ file. works_in file ≡ false) }
     ensures few { IfOk result (λ file. IsCounted ⟦<D as Disk>⟧ (disk_of journal) (disk_in file) (count_in file)) }
@@ -66,8 +66,8 @@ fn read_open<D: Disk>(base: u64, journal: Journal<D>) -> Result<ReadFile<D>, (Re
 // What a file has, read through. A refusal hands the disk back: `Damaged` if it is neither spare nor a journal whose
 // numbers are at most the greatest base, `DeviceFault` or `OutOfMemory`. It changes nothing.
 pub(crate) fn read_file<D: Disk>(alloc: Global, disk: D) -> Result<ReadFile<D>, (Refusal, D)>
-    ensures read { IsTrue D.is_honest → IsDurable (D.state disk) → IfOk result IsAsRead }
-    ensures damaged { IsTrue D.is_honest → IsDurable (D.state disk) →
+    ensures read { IsTrue (D.reads_were_true (file_after result)) → IsDurable (D.state disk) → IfOk result IsAsRead }
+    ensures damaged { IsTrue (D.reads_were_true (file_after result)) → IsDurable (D.state disk) →
         IfErr result (IsNoneIfDamaged (D.state disk).contents) }
     ensures works { IfOk result (λ file. works_in file ≡ false) }
     ensures few { IfOk result (λ file. IsReadThrough ⟦<D as Disk>⟧ disk (disk_in file) (count_in file)) }

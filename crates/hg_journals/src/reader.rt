@@ -101,7 +101,7 @@ impl<D: Disk> JournalPair<D> {
         ensures few { IfOk result (λ count. count ≤ most) }
         ensures passed { MoreInNewer self.old reader.old self.new reader.new result }
         ensures stays { StaysInNewer self.old reader.old self.new reader.new result }
-        ensures keeps { Where true self.old reader.old (λ base events seen. Keeps self.new base events) }
+        ensures keeps { Where true self.old reader.old self.new (λ base events seen. Keeps self.new base events) }
         ensures reads { ReadsNewer self.old self.new result }
     {
         self.newer.pass(reader, most)
@@ -114,7 +114,7 @@ impl<D: Disk> JournalPair<D> {
         ensures few { IfOk result (λ count. count ≤ most) }
         ensures passed { MoreBehind self.old self.new reader.new result }
         ensures stays { StaysBehind self.old self.new reader.new result }
-        ensures keeps { Behind self.old (λ base events former. Keeps self.new base events) }
+        ensures keeps { Behind self.old self.new (λ base events former. Keeps self.new base events) }
         ensures reads { ReadsNewer self.old self.new result }
     {
         *reader = self.newer.events()?;

@@ -1,10 +1,10 @@
 -- What each image of a file of slots has in a slot, and what a write elsewhere leaves of it.
-use Rattle.std.proofs.Common.{IsTrue, if◌then◌else◌, ◌≡◌, ◌≢◌, ◌⊎◌, ⊎_elim, ◌≤◌, ◌+◌, ◌*◌, ℕ, max, Bool, true, false, Result, Ok, OnOk, OnErr, List, ◌∷◌, ◌++◌, length, take, refl, sym, ◌∙◌, ap, subst, arith, length-drop, take-append-drop, drop}
+use Rattle.std.proofs.Common.{if◌then◌else◌, ◌≡◌, ◌≢◌, ◌⊎◌, ⊎_elim, ◌≤◌, ◌+◌, ◌*◌, ℕ, max, Bool, true, false, Result, Ok, OnOk, OnErr, List, ◌∷◌, ◌++◌, length, take, refl, sym, ◌∙◌, ap, subst, arith, length-drop, take-append-drop, drop}
 use Rattle.std.proofs.lemmas.List.{length-take-le, places}
 use Rattle.hg_disk.specs.declared.disk.Disk as disk
 use Rattle.hg_disk.specs.State.{DiskState, IsImage, SameImages, overwritten, after_write}
 use Rattle.hg_disk.specs.Laws.{Holds}
-use Rattle.hg_disk.specs.Moments.{Leaves, LeavesOnly}
+use Rattle.hg_disk.specs.Moments.{Leaves, LeavesOnly, WereTrueBefore}
 use Rattle.hg_disk.proofs.Moments.{weaker, write_leaves}
 use Rattle.hg_disk.proofs.Certain.{left_before, left_behind, left_long}
 use Rattle.hg_disk.proofs.Keeping.{holds_write_before, holds_write_behind, holds_written, read_held}
@@ -36,7 +36,7 @@ written_slot file slot at written here size = (size, subst (λ (n : ℕ). Holds 
 module _ {D : Type 0} (g : disk.Ghosts D) (has_its_bytes : (d : D) → IsImage (g.state d) (g.state d).contents) where
   -- each image of a write has in another slot what each image had there before
   pub write_keeps : {T E : Type 0} (old new : D) (slot other at : ℕ) (written bytes : List ℕ) (result : Result T E) → at ≡ 3080 * slot → length written ≡ 3080 → other ≢ slot
-      → OnOk result (g.state new ≡ after_write at written (g.state old)) → OnErr result (SameImages (after_write at written (g.state old)) (g.state new)) → g.past new ≡ (g.state old ∷ g.past old) → (IsTrue (g.reads_were_true new) → IsTrue (g.reads_were_true old))
+      → OnOk result (g.state new ≡ after_write at written (g.state old)) → OnErr result (SameImages (after_write at written (g.state old)) (g.state new)) → g.past new ≡ (g.state old ∷ g.past old) → WereTrueBefore g old new
       → Leaves (HasBytes other bytes) (g.state old) → LeavesOnly g old new (HasBytes other bytes)
   write_keeps old new slot other at written bytes result here size apart ok err clock kept leaves =
       let other_size = (leaves (g.state old).contents (has_its_bytes old)).0 in
@@ -80,7 +80,7 @@ as_read P false before now works has = has
 module _ {D : Type 0} (g : disk.Ghosts D) where
   -- no image of a write is shorter than each image before it
   pub write_long : {T E : Type 0} (old new : D) (n at : ℕ) (written : List ℕ) (result : Result T E)
-      → OnOk result (g.state new ≡ after_write at written (g.state old)) → OnErr result (SameImages (after_write at written (g.state old)) (g.state new)) → g.past new ≡ (g.state old ∷ g.past old) → (IsTrue (g.reads_were_true new) → IsTrue (g.reads_were_true old))
+      → OnOk result (g.state new ≡ after_write at written (g.state old)) → OnErr result (SameImages (after_write at written (g.state old)) (g.state new)) → g.past new ≡ (g.state old ∷ g.past old) → WereTrueBefore g old new
       → Leaves (λ image. n ≤ length image) (g.state old) → LeavesOnly g old new (λ image. n ≤ length image)
   write_long old new n at written result ok err clock kept leaves =
       weaker g old new (IsImage (after_write at written (g.state old))) (λ image. n ≤ length image) (write_leaves g old new at written result ok err clock kept) (left_long at written (g.state old) n leaves)

@@ -2,7 +2,7 @@
 ghost use Rattle.std.specs.Prelude.{◌≡◌, ◌+◌, ◌-◌, ◌*◌, ◌<◌, ◌≤◌, ◌↔◌, ℕ, ◌∷◌, length, take, false, IsTrue, OnOk, OnErr, IsErrOf, Err, IfOk, map};
 ghost use Rattle.std.specs.Int.{w64, to_be_bytes};
 ghost use Rattle.hg_disk.specs.State.{after_sync, counted};
-ghost use Rattle.hg_disk.specs.Moments.{AddsNoImage, IsNeverShorter};
+ghost use Rattle.hg_disk.specs.Moments.{AddsNoImage, IsNeverShorter, WereTrueBefore};
 ghost use Rattle.hg_disk.specs.Calls.{CallsAtMost};
 ghost use Rattle.hg_pages.specs.Runs.{HasRun};
 ghost use Rattle.hg_pages.specs.Slots.{AreKnown, HasBytes, IsOutside};
@@ -158,7 +158,7 @@ impl<D: Disk> SlotFile<D> {
         ensures long { (n : ℕ) → IsNeverShorter ⟦<D as Disk>⟧ n (disk_of self.old) (disk_of self.new) }
 
         ensures calls { CallsAtMost ⟦<D as Disk>⟧ 1 (disk_of self.old) (disk_of self.new) }
-        ensures kept { IsTrue (D.reads_were_true (disk_of self.new)) → IsTrue (D.reads_were_true (disk_of self.old)) }
+        ensures kept { WereTrueBefore ⟦<D as Disk>⟧ (disk_of self.old) (disk_of self.new) }
         ensures device { D.failures (disk_of self.new) ≡ failures_after_write result (D.failures (disk_of self.old)) }
         ensures works { OnOk result (is_broken self.new ≡ false) }
         ensures breaks { OnErr result (IsTrue (is_broken self.new)) }
@@ -228,8 +228,8 @@ impl<D: Disk> SlotFile<D> {
         sets: &SetTable,
         cells: &mut Page,
     ) -> Result<(), SlotFault>
-        ensures read { ReadsPage ⟦<D as Disk>⟧ self.old slot page segments sets.now.sets cells.new result }
-        ensures damaged { TellsTrueDamage ⟦<D as Disk>⟧ self.old slot page segments sets.now.sets result }
+        ensures read { ReadsPage ⟦<D as Disk>⟧ self.old self.new slot page segments sets.now.sets cells.new result }
+        ensures damaged { TellsTrueDamage ⟦<D as Disk>⟧ self.old self.new slot page segments sets.now.sets result }
 
         // Even on a disk that lies, the cells name only known segments and sets.
         ensures named { OnOk result (AreKnown segments sets.now.sets cells.new) }
@@ -256,7 +256,7 @@ impl<D: Disk> SlotFile<D> {
         requires some { 1 ≤ count }
         requires most { count ≤ MOST_RUN }
         requires length { length bytes.old ≡ count * SLOT_LEN }
-        ensures read { IsTrue D.is_honest → OnOk result (HasRun first count bytes.new (known ⟦<D as Disk>⟧ self.old)) }
+        ensures read { IsTrue (D.reads_were_true (disk_of self.new)) → OnOk result (HasRun first count bytes.new (known ⟦<D as Disk>⟧ self.old)) }
         ensures damaged { IsErrOf result SlotFault.Damaged → IsOutside (first + count - 1) (known ⟦<D as Disk>⟧ self.old) }
         ensures length { length bytes.new ≡ count * SLOT_LEN }
         ensures memory { ¬ IsErrOf result SlotFault.OutOfMemory }

@@ -77,7 +77,7 @@ impl<D: Disk> SlotFile<D> {
     pub fn read_run(&mut self, first: u32, count: usize, run: &mut SlotRun) -> Result<(), SlotFault>
         requires some { 1 ≤ count }
         requires most { count ≤ MOST_RUN }
-        ensures read { IsTrue D.is_honest → OnOk result (HasRun first count run.new (known ⟦<D as Disk>⟧ self.old)) }
+        ensures read { IsTrue (D.reads_were_true (disk_of self.new)) → OnOk result (HasRun first count run.new (known ⟦<D as Disk>⟧ self.old)) }
         ensures damaged { IsErrOf result SlotFault.Damaged → IsOutside (first + count - 1) (known ⟦<D as Disk>⟧ self.old) }
         ensures memory { ¬ IsErrOf result SlotFault.OutOfMemory }
         ensures stays { WasRead ⟦<D as Disk>⟧ 1 self.old self.new }

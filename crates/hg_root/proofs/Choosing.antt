@@ -1,5 +1,5 @@
 -- Which of two root files has the newest root.
-use Rattle.std.proofs.Common.{◌≡◌, ◌⊎◌, inl, inr, ⊎_elim, ℕ, ◌+◌, ◌<◌, ◌≤◌, ◌^◌, Bool, true, false, not, is_some, cond, List, [], Option, Some, None, Result, Ok, Err, IfOk, OnErr, length, get_or, refl, sym, ◌∙◌, ap, subst, arith}
+use Rattle.std.proofs.Common.{IsTrue, ◌≡◌, ◌⊎◌, inl, inr, ⊎_elim, ℕ, ◌+◌, ◌<◌, ◌≤◌, ◌^◌, Bool, true, false, not, is_some, cond, List, [], Option, Some, None, Result, Ok, Err, IfOk, OnErr, length, get_or, refl, sym, ◌∙◌, ap, subst, arith}
 use Rattle.std.proofs.lemmas.Bool.{cases_lt}
 use Rattle.hg_disk.specs.State.{DiskState, settled}
 use Rattle.hg_disk.specs.declared.disk.Disk as disk
@@ -15,7 +15,7 @@ use Rattle.hg_root.specs.Finding.{AreRootsOf, IsDue, WasRead, number_in, root_in
 use Rattle.hg_root.specs.Lawful.{IsRoot}
 use Rattle.hg_root.specs.Opening.{IsSomeRoot}
 use Rattle.hg_root.specs.Newest.{IsBelow, IsFormer, IsNewest, IsRootFile}
-use Rattle.hg_root.specs.Pairs.{IsKnown, Stands, failures, first_bytes, first_of, newer, older, second_bytes, second_of}
+use Rattle.hg_root.specs.Pairs.{IsKnown, ReadsWereTrue, Stands, failures, first_bytes, first_of, newer, older, second_bytes, second_of}
 use Rattle.hg_root.specs.Parts.{Parts}
 use Rattle.hg_root.specs.Roots.{parts_of}
 use Rattle.hg_root.specs.declared.root.Root.{Root}
@@ -210,8 +210,17 @@ module _ {D : Type 0} (g : disk.Ghosts D) where
   pub of_first : (p : RootPair D) (root former : Option Parts) → IsNewest root former (first_bytes g p) (second_bytes g p) → IsNewest root former (bytes (older p)) (bytes (newer p))
   of_first p root former is = out_of_turn p.is_turned (older p) (newer p) root former is
 
+  -- the reads of the older file and of the newer one, where those of the first and of the second were true
+  pub both_true : (b : Bool) (a c : D) → IsTrue (g.reads_were_true (cond b c a)) × IsTrue (g.reads_were_true (cond b a c)) → IsTrue (g.reads_were_true a) × IsTrue (g.reads_were_true c)
+  both_true true a c were = (were.1, were.0)
+  both_true false a c were = were
+
+  pub both_true_in : (b : Bool) (d e : D) (new : RootPair D) → first_of new ≡ cond b e d → second_of new ≡ cond b d e → ReadsWereTrue g new → IsTrue (g.reads_were_true d) × IsTrue (g.reads_were_true e)
+  both_true_in b d e new first second were =
+      both_true b d e (subst (λ (x : D). IsTrue (g.reads_were_true x)) first were.0, subst (λ (x : D). IsTrue (g.reads_were_true x)) second were.1)
+
   pub not_read : (d : D) → WasRead g d d
-  not_read d = record { state = refl; any_moment = record { later = []; has_gone = refl; first = λ image is. is; each = tt }; calls = omega arith }
+  not_read d = record { state = refl; any_moment = record { later = []; has_gone = refl; first = λ image is. is; each = tt; kept = λ were. were }; calls = omega arith }
 
   read_first : (b : Bool) (a c d e : D) → WasRead g a d → WasRead g c e → WasRead g (cond b c a) (cond b e d)
   read_first true a c d e one other = other

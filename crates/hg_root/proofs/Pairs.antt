@@ -1,5 +1,5 @@
 -- What a crash leaves of two root files in the steps of a root.
-use Rattle.std.proofs.Common.{◌≡◌, ◌≢◌, inl, inr, ⊎_elim, ℕ, Bool, false, List, [], ◌∷◌, ◌++◌, Option, Some, None, OnOk, Ok, Err, Result, refl, sym, ◌∙◌, ap, subst, append_assoc, append-nil, arith}
+use Rattle.std.proofs.Common.{IsTrue, ◌≡◌, ◌≢◌, inl, inr, ⊎_elim, ℕ, Bool, false, List, [], ◌∷◌, ◌++◌, Option, Some, None, OnOk, Ok, Err, Result, refl, sym, ◌∙◌, ap, subst, append_assoc, append-nil, arith}
 use Rattle.std.proofs.lemmas.Bool.{cases_eq}
 use Rattle.hg_disk.specs.State.{DiskState, IsImage, settled}
 use Rattle.hg_disk.specs.Moments.{LeavesOnly, MayLeave, history}
@@ -43,8 +43,8 @@ module _ {D : Type 0} (g : disk.Ghosts D) where
   pub one_file : (old new : RootPair D) (P : List ℕ → Type 0) (Q : List ℕ → List ℕ → Type 0) (file : List ℕ) → newer new ≡ newer old → g.state (newer old) ≡ settled file → LeavesOnly g (older old) (older new) P
       → ((one : List ℕ) → P one → Q one file) → EachPair g old new Q
   one_file old new P Q file same rests only then = record {
-    older_goes = (only.later, only.has_gone);
-    newer_goes = ([], ap (history g) same);
+    older_goes = (only.later, only.has_gone, only.kept);
+    newer_goes = ([], ap (history g) same, subst (λ (d : D). IsTrue (g.reads_were_true d) → IsTrue (g.reads_were_true (newer old))) (sym same) (λ were. were));
     each = λ one other may_one may_other.
         let is = rests_is (newer old) file other rests (still g (newer old) other (subst (λ (d : D). MayLeave g (newer old) d other) same may_other)) in
         subst (Q one) (sym is) (then one (may_leave g (older old) (older new) P one only may_one));
@@ -53,8 +53,8 @@ module _ {D : Type 0} (g : disk.Ghosts D) where
   -- no call
   pub no_call : (p : RootPair D) (root former : Option Parts) → Stands g p root former → EachPair g p p (IsNewest root former)
   no_call p root former stands = record {
-    older_goes = ([], refl);
-    newer_goes = ([], refl);
+    older_goes = ([], refl, λ were. were);
+    newer_goes = ([], refl, λ were. were);
     each = λ one other may_one may_other.
         let is_one = rests_is (older p) stands.older_file one stands.older_rests.durable (still g (older p) one may_one) in
         let is_other = rests_is (newer p) stands.newer_file other stands.newer_rests.durable (still g (newer p) other may_other) in

@@ -82,9 +82,9 @@ module _ {D : Type 0} (g : disk.Ghosts D) where
   abbrev pub StandsWith : RootPair D → Newest → Type 0
   StandsWith p found = Stands g p (root_in found.root) (root_in found.former)
 
-  -- If an honest disk is told as damaged, its bytes are not a root file's.
-  abbrev pub TellsTrueDamage : {T : Type 0} → D → Result T RootFault → Type 0
-  TellsTrueDamage d result = IsTrue g.is_honest → IsErrOf result Damaged → IsNoRootFile (g.state d).contents
+  -- If the reads were true and damage is told, the disk's bytes are not a root file's.
+  abbrev pub TellsTrueDamage : {T : Type 0} → (old new : D) → Result T RootFault → Type 0
+  TellsTrueDamage old new result = IsTrue (g.reads_were_true new) → IsErrOf result Damaged → IsNoRootFile (g.state old).contents
 
   -- If both files were durable, the pair stands with the roots that were found.
   abbrev pub StandsDurably : {E : Type 0} → (old new : RootPair D) → Result Newest E → Type 0

@@ -1,7 +1,7 @@
 -- What a crash may leave of two root files, and the state of a pair in each step.
 use Rattle.std.specs.Prelude.{◌≡◌, ◌≢◌, ◌⊎◌, ◌+◌, ℕ, Bool, true, false, IsTrue, not, List, [], ◌∷◌, Option, Some, None, Result, Ok, Err, IfErr, IsErrOf, OnOk, OnErr, if◌then◌else◌}
 use Rattle.hg_disk.specs.Calls.{CallsAtMost}
-use Rattle.hg_disk.specs.Moments.{GoesOn, MayLeave}
+use Rattle.hg_disk.specs.Moments.{GoesOn, MayLeave, WereTrueBefore}
 use Rattle.hg_disk.specs.State.{settled}
 use Rattle.hg_disk.specs.declared.disk.Disk as disk
 use Rattle.hg_gate.specs.Batches.{IsClosed, closed_gate, open_gate}
@@ -80,6 +80,10 @@ module _ {D : Type 0} (g : disk.Ghosts D) where
 
   abbrev pub second_bytes : RootPair D → List ℕ
   second_bytes p = (g.state (second_of p)).contents
+
+  -- The reads of both files so far were true.
+  abbrev pub ReadsWereTrue : RootPair D → Type 0
+  ReadsWereTrue p = IsTrue (g.reads_were_true (first_of p)) × IsTrue (g.reads_were_true (second_of p))
 
   -- how many calls of the two disks have failed
   abbrev pub failures : RootPair D → ℕ
@@ -193,6 +197,7 @@ module _ {D : Type 0} (g : disk.Ghosts D) where
     pub other : is_other_broken new ≡ is_other_broken old
     pub fault : IfErr result IsBrokenOrDevice
     pub calls : CallsAtMost g most (older old) (older new)
+    pub kept : WereTrueBefore g (older old) (older new)
     pub device : g.failures (older new) ≡ failures_after result (g.failures (older old))
     pub broken : IsErrOf result Broken → IsTrue (is_broken old)
     pub works : is_broken old ≡ false → OnOk result (is_broken new ≡ false)

@@ -16,9 +16,9 @@ pub(crate) fn root_of<D: Disk>(
     alloc: Global,
     file: &mut Gated<D>,
 ) -> Result<Option<Root>, RootFault>
-    ensures found { IsTrue D.is_honest → IfOk result (HasRoot (D.state (disk_of file.old)).contents) }
+    ensures found { IsTrue (D.reads_were_true (disk_of file.new)) → IfOk result (HasRoot (D.state (disk_of file.old)).contents) }
     ensures whole { IfOk result IsWholeIn }
-    ensures damaged { TellsTrueDamage ⟦<D as Disk>⟧ (disk_of file.old) result }
+    ensures damaged { TellsTrueDamage ⟦<D as Disk>⟧ (disk_of file.old) (disk_of file.new) result }
     ensures fits { OnOk result (length (D.state (disk_of file.old)).contents ≤ 2 ^ 62) }
     ensures read { WasRead ⟦<D as Disk>⟧ (disk_of file.old) (disk_of file.new) }
     ensures rests { (bytes : List ℕ) → Rests ⟦<D as Disk>⟧ file.old bytes → Rests ⟦<D as Disk>⟧ file.new bytes }

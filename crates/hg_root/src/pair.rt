@@ -38,7 +38,7 @@ pub struct RootPair<D: Disk> {
 impl<D: Disk> RootPair<D> {
     ghost use Rattle.hg_root.specs.Finding.{HaveOneNumber, AreWhole, ChoosesFrom, HasNoNewest, IsNewestOf, IsOnlyOf, IsWholeIn, StandsByChoice, StandsDurably, WasRead, root_in};
     ghost use Rattle.hg_root.specs.Making.{CountsMaking};
-    ghost use Rattle.hg_root.specs.Pairs.{AreGates, CallsOlder, ClosesInTurn, IsEitherBroken, IsGate, IsWorking, LeavesEither, LeavesRoot, LeavesRoots, OpensNext, Prepares, PutsBody, Stands, StandsClosed, StandsOpened, StaysOnErr, failures, first_after, first_of, is_broken, is_closed, is_other_closed, is_turned, newer, older, second_after, second_of, turned};
+    ghost use Rattle.hg_root.specs.Pairs.{AreGates, CallsOlder, ClosesInTurn, IsEitherBroken, IsGate, IsWorking, LeavesEither, LeavesRoot, LeavesRoots, OpensNext, Prepares, PutsBody, ReadsWereTrue, Stands, StandsClosed, StandsOpened, StaysOnErr, failures, first_after, first_of, is_broken, is_closed, is_other_closed, is_turned, newer, older, second_after, second_of, turned};
 
     /// The pair of two files, whatever their bytes are. It makes no device call. Call `newest` first: it finds which of
     /// them has the newest open root.
@@ -130,12 +130,12 @@ impl<D: Disk> RootPair<D> {
     /// file is empty, or is open with a length or a body outside the grammar, or both are open with the same number. It
     /// makes at most three device calls of each disk. After an `Err` the pair stands as before, and it can be tried again.
     pub fn newest(&mut self, alloc: Global) -> Result<Newest, RootFault>
-        ensures found { IsTrue D.is_honest → IfOk result (IsNewestOf ⟦<D as Disk>⟧ self.old) }
-        ensures only { IsTrue D.is_honest → IfOk result (IsOnlyOf ⟦<D as Disk>⟧ self.old) }
+        ensures found { ReadsWereTrue ⟦<D as Disk>⟧ self.new → IfOk result (IsNewestOf ⟦<D as Disk>⟧ self.old) }
+        ensures only { ReadsWereTrue ⟦<D as Disk>⟧ self.new → IfOk result (IsOnlyOf ⟦<D as Disk>⟧ self.old) }
         ensures whole { IfOk result AreWhole }
-        ensures stands { IsTrue D.is_honest → StandsDurably ⟦<D as Disk>⟧ self.old self.new result }
+        ensures stands { ReadsWereTrue ⟦<D as Disk>⟧ self.new → StandsDurably ⟦<D as Disk>⟧ self.old self.new result }
         ensures none_open { IfOk result (λ found. root_in found.root ≡ None → older self.new ≡ first_of self.new) }
-        ensures damaged { IsTrue D.is_honest → IsErrOf result RootFault.Damaged → HasNoNewest ⟦<D as Disk>⟧ self.old }
+        ensures damaged { ReadsWereTrue ⟦<D as Disk>⟧ self.new → IsErrOf result RootFault.Damaged → HasNoNewest ⟦<D as Disk>⟧ self.old }
         ensures stays { StaysOnErr ⟦<D as Disk>⟧ self.old self.new result }
 
         // Neither file is changed.

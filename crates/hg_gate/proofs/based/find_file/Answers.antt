@@ -15,7 +15,7 @@ pub returns-in_err-len-clause-damaged : goal.returns-in_err-len-clause-damaged
 returns-in_err-len-clause-damaged g c honest is =
     let file = (g.D.Disk.state c.args.disk.now).contents in
     let same : c.in_err-len.field-0.0 ≡ Damaged = grind arith in
-    no_file c.in-Some.base file (subst (FindsBase file) c.in-Some.is (c.in_ok-base.ensures.found honest))
+    no_file c.in-Some.base file (subst (FindsBase file) c.in-Some.is (c.in_ok-base.ensures.found (c.find_end.ensures.reads.any_moment.kept honest)))
     (subst (λ (s : DiskState). IsNoTail (drop 17 s.contents)) c.read_front.ensures.reads.state (c.in_err-len.ensures.damaged honest (λ i. Err (same i))))
 
 pub returns-in_err-len-clause-reads : goal.returns-in_err-len-clause-reads

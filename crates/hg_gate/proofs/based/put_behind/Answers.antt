@@ -12,7 +12,7 @@ returns-in_err-write_at-clause-any_moment g c gate rest h closed =
     let d1 = c.cut_to_gate.new.disk in
     let d2 = c.write_at.new.self in
     joined disk c.args.disk.now d1 d2 IsClosed (c.cut_to_gate.ensures.any_moment gate rest h closed)
-    (write_shut disk gate closed d1 d2 1 c.args.bytes.now c.write_at.result (omega arith) (c.in_ok-cut_to_gate.ensures.cut gate rest h).1 c.write_at.ensures.ok c.write_at.ensures.err c.write_at.ensures.clock)
+    (write_shut disk gate closed d1 d2 1 c.args.bytes.now c.write_at.result (omega arith) (c.in_ok-cut_to_gate.ensures.cut gate rest h).1 c.write_at.ensures.ok c.write_at.ensures.err c.write_at.ensures.clock c.write_at.ensures.kept)
 
 pub returns-clause-any_moment : goal.returns-clause-any_moment
 returns-clause-any_moment g c gate rest h closed =
@@ -23,8 +23,8 @@ returns-clause-any_moment g c gate rest h closed =
     let kept1 = (c.in_ok-cut_to_gate.ensures.cut gate rest h).1 in
     let kept2 = written_kept (disk.state d1) (disk.state d2) gate 1 c.args.bytes.now (omega arith) kept1 c.in_ok-write_at.ensures.ok in
     let first = joined disk c.args.disk.now d1 d2 IsClosed (c.cut_to_gate.ensures.any_moment gate rest h closed)
-    (write_shut disk gate closed d1 d2 1 c.args.bytes.now c.write_at.result (omega arith) kept1 c.write_at.ensures.ok c.write_at.ensures.err c.write_at.ensures.clock) in
-    joined disk c.args.disk.now d2 d3 IsClosed first (sync_shut disk gate closed d2 d3 c.sync.result g.met.D.Disk.has_its_bytes kept2 c.sync.ensures.ok c.sync.ensures.err c.sync.ensures.clock)
+    (write_shut disk gate closed d1 d2 1 c.args.bytes.now c.write_at.result (omega arith) kept1 c.write_at.ensures.ok c.write_at.ensures.err c.write_at.ensures.clock c.write_at.ensures.kept) in
+    joined disk c.args.disk.now d2 d3 IsClosed first (sync_shut disk gate closed d2 d3 c.sync.result g.met.D.Disk.has_its_bytes kept2 c.sync.ensures.ok c.sync.ensures.err c.sync.ensures.clock c.sync.ensures.kept)
 
 pub returns-clause-written : goal.returns-clause-written
 returns-clause-written g c gate rest h =

@@ -36,7 +36,7 @@ pub returns-in_err-go_on-clause-damaged : goal.returns-in_err-go_on-clause-damag
 returns-in_err-go_on-clause-damaged g c honest is =
     let same : c.in_err-go_on.field-0.0 ≡ Damaged = grind arith in
     let at = c.loop-reader.reader.next in
-    no_tail (drop c.args.begins (g.D.Disk.state c.args.disk.now).contents) at (c.loop-reader.invariant.counted honest).0 (λ bodies tail.
+    no_tail (drop c.args.begins (g.D.Disk.state c.args.disk.now).contents) at (c.loop-reader.invariant.counted (c.go_on.ensures.reads.any_moment.kept honest)).0 (λ bodies tail.
     c.in_err-go_on.ensures.whole honest (λ i. Err (same i)) bodies (subst (λ (s : DiskState). IsTail (drop at (drop c.args.begins s.contents)) bodies) (sym c.loop-reader.invariant.state) tail))
 
 pub returns-in_err-go_on-clause-reads : goal.returns-in_err-go_on-clause-reads
@@ -55,13 +55,13 @@ returns-clause-reads g c = record {
 
 pub returns-in_err-go_on-clause-one_a_batch : goal.returns-in_err-go_on-clause-one_a_batch
 returns-in_err-go_on-clause-one_a_batch g c honest bodies has =
-    let so_far = c.loop-reader.invariant.counted honest in
+    let so_far = c.loop-reader.invariant.counted (c.go_on.ensures.reads.any_moment.kept honest) in
     let one = c.go_on.ensures.reads.calls in
     omega (arith, one, so_far.1, few_walked (drop c.args.begins (g.D.Disk.state c.args.disk.now).contents) c.loop-reader.reader.next bodies so_far.0 has)
 
 pub returns-clause-one_a_batch : goal.returns-clause-one_a_batch
 returns-clause-one_a_batch g c honest bodies has =
-    let so_far = c.loop-reader.invariant.counted honest in
+    let so_far = c.loop-reader.invariant.counted (c.go_on.ensures.reads.any_moment.kept honest) in
     let one = c.go_on.ensures.reads.calls in
     omega (arith, one, so_far.1, few_walked (drop c.args.begins (g.D.Disk.state c.args.disk.now).contents) c.loop-reader.reader.next bodies so_far.0 has)
 
@@ -71,11 +71,11 @@ returns-clause-found g c honest =
     let old = c.loop-reader.reader in
     let bytes = ap (λ (s : DiskState). drop c.args.begins s.contents) c.loop-reader.invariant.state in
     let told : c.go_on.result ≡ Ok false = grind arith in
-    let walks = c.in_ok-go_on.ensures.walks honest (subst (λ (l : List ℕ). HasAhead l old) (sym bytes) (c.loop-reader.invariant.ahead honest)) in
+    let walks = c.in_ok-go_on.ensures.walks honest (subst (λ (l : List ℕ). HasAhead l old) (sym bytes) (c.loop-reader.invariant.ahead (c.go_on.ensures.reads.any_moment.kept honest))) in
     let closed = subst (λ (more : Bool). MatchBool more (PassesBatch (drop c.args.begins (g.D.Disk.state c.loop-reader.disk).contents) old c.go_on.new.reader)
     (IsClosed (drop old.next (drop c.args.begins (g.D.Disk.state c.loop-reader.disk).contents)))) c.if-branch.false walks in
     subst (λ (r : LogReader). EndsAt file r.next) (sym (c.go_on.ensures.stays told))
-    (ends file old.next (c.loop-reader.invariant.counted honest).0 (subst (λ (l : List ℕ). IsClosed (drop old.next l)) bytes closed))
+    (ends file old.next (c.loop-reader.invariant.counted (c.go_on.ensures.reads.any_moment.kept honest)).0 (subst (λ (l : List ℕ). IsClosed (drop old.next l)) bytes closed))
 
 pub returns-clause-fits : goal.returns-clause-fits
 returns-clause-fits g c =
@@ -107,14 +107,14 @@ loop-reader-preserved g c =
       within = omega (arith, went.1, size);
       calls = omega (arith, one, c.loop-reader.invariant.calls, went.0);
       counted = λ honest.
-          let walks = c.in_ok-go_on.ensures.walks honest (subst (λ (l : List ℕ). HasAhead l old) (sym bytes) (c.loop-reader.invariant.ahead honest)) in
+          let walks = c.in_ok-go_on.ensures.walks honest (subst (λ (l : List ℕ). HasAhead l old) (sym bytes) (c.loop-reader.invariant.ahead (c.go_on.ensures.reads.any_moment.kept honest))) in
           let passed = subst (λ (l : List ℕ). PassesBatch l old new) bytes
           (subst (λ (more : Bool). MatchBool more (PassesBatch now old new) (IsClosed (drop old.next now))) c.if-branch.true walks) in
-          let so_far = c.loop-reader.invariant.counted honest in
+          let so_far = c.loop-reader.invariant.counted (c.go_on.ensures.reads.any_moment.kept honest) in
           subst (λ (at : ℕ). (w : Walked file at) × CallsAtMost g.D.Disk (length w.bodies) c.args.disk.now c.go_on.new.disk) (sym passed.place)
           (walk_on file old.next passed.len so_far.0 passed.begins, omega (arith, one, so_far.1, walk_counts file old.next passed.len so_far.0 passed.begins));
       ahead = λ honest.
-          let walks = c.in_ok-go_on.ensures.walks honest (subst (λ (l : List ℕ). HasAhead l old) (sym bytes) (c.loop-reader.invariant.ahead honest)) in
+          let walks = c.in_ok-go_on.ensures.walks honest (subst (λ (l : List ℕ). HasAhead l old) (sym bytes) (c.loop-reader.invariant.ahead (c.go_on.ensures.reads.any_moment.kept honest))) in
           let passed = subst (λ (l : List ℕ). PassesBatch l old new) bytes
           (subst (λ (more : Bool). MatchBool more (PassesBatch now old new) (IsClosed (drop old.next now))) c.if-branch.true walks) in
           passed.ahead;

@@ -19,7 +19,7 @@ returns-clause-damaged g c honest is bodies has =
 pub returns-clause-found : goal.returns-clause-found
 returns-clause-found g c honest =
     let file = (g.D.Disk.state c.args.disk.now).contents in
-    if_ok c.find_end.result (λ len found. ends_behind header file 8 len (c.in_ok-read_header.ensures.found honest)
+    if_ok c.find_end.result (λ len found. ends_behind header file 8 len (c.in_ok-read_header.ensures.found (c.find_end.ensures.reads.any_moment.kept honest))
     (subst (λ (s : DiskState). EndsAt (drop 8 s.contents) len) c.read_header.ensures.reads.state found)) (c.find_end.ensures.found honest)
 
 pub returns-clause-one_a_batch : goal.returns-clause-one_a_batch

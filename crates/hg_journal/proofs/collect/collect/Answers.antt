@@ -21,7 +21,7 @@ returns-then-len-max-clause-events g c events honest keeps size =
 pub returns-in_err-next-clause-whole : goal.returns-in_err-next-clause-whole
 returns-in_err-next-clause-whole g c events honest keeps =
     let l = c.loop-number in
-    let read = l.invariant.read events (c.next.ensures.any_moment.kept honest) keeps in
+    let read = l.invariant.read events (c.next.ensures.disk.any_moment.kept honest) keeps in
     unless_damaged c.from_residual-in_err-next.result
     (λ told. c.next.ensures.damaged read.seen honest read.at (grind arith) events (bytes_now g.D.Disk header l.journal events (l.invariant.keeps events keeps)))
 
@@ -55,7 +55,7 @@ returns-in_err-note-in-Some-clause-disk g c =
 pub returns-in-None-clause-events : goal.returns-in-None-clause-events
 returns-in-None-clause-events g c events honest keeps size =
     let l = c.loop-number in
-    let read = l.invariant.read events (c.next.ensures.any_moment.kept honest) keeps in
+    let read = l.invariant.read events (c.next.ensures.disk.any_moment.kept honest) keeps in
     at_last g.D.Disk l.journal events (l.invariant.keeps events keeps) c.args.count c.args.from c.args.max size c.next.new.self read.seen l.found.items
     (rw c.in-None.is at (c.in_ok-next.ensures.next read.seen honest read.at)) (c.next.ensures.keeps events (l.invariant.keeps events keeps)) read.has l.invariant.few
 
@@ -72,7 +72,7 @@ loop-number-preserved g c =
       within = search rules;
       few = search rules;
       read = λ events honest keeps.
-          let read = l.invariant.read events (c.next.ensures.any_moment.kept honest) keeps in
+          let read = l.invariant.read events (c.next.ensures.disk.any_moment.kept honest) keeps in
           record {
             seen = read.seen ++ c.in-Some.named ∷ [];
             at = rw c.in-Some.is at (c.in_ok-next.ensures.next read.seen honest read.at);
@@ -94,7 +94,7 @@ loop-number-preserved-in-Continue-branch-4 g c =
       within = search rules;
       few = omega (arith, ap (λ (xs : List Named). length xs) c.in_ok-note-in-Some.ensures.items, length-append l.found.items (c.in-Some.named ∷ []), c.if-len-max.false, c.len.ensures);
       read = λ events honest keeps.
-          let read = l.invariant.read events (c.next.ensures.any_moment.kept honest) keeps in
+          let read = l.invariant.read events (c.next.ensures.disk.any_moment.kept honest) keeps in
           record {
             seen = read.seen ++ c.in-Some.named ∷ [];
             at = rw c.in-Some.is at (c.in_ok-next.ensures.next read.seen honest read.at);

@@ -32,14 +32,14 @@ loop-left-preserved g c = record {
   few = omega (arith, c.loop-left.invariant.few);
   calls = omega (arith, c.loop-left.invariant.calls, c.pass.ensures.disk.calls, c.in_ok-passed.ensures.few, c.if-passed-eq0.false, c.loop-left.invariant.few);
   read = λ honest opens.
-      let read = c.loop-left.invariant.read honest opens in
+      let read = c.loop-left.invariant.read (c.pass.ensures.disk.any_moment.kept honest) opens in
       let more = c.in_ok-passed.ensures.passed_behind (base_front c.args.base) read.0 honest read.2 (omega (arith, c.if-passed-eq0.false)) in
       (read.0 ++ more.0, (let sum : length (read.0 ++ more.0) + (c.loop-left.left - c.in_ok-passed.passed) ≡ (MAX_BASE + 1) - c.args.base = omega (arith, length-append read.0 more.0, read.1, more.1, c.in_ok-passed.ensures.few) in sum), more.2);
 }
 
 pub returns-in_err-passed-clause-damaged : goal.returns-in_err-passed-clause-damaged
 returns-in_err-passed-clause-damaged g c honest opens told events is few =
-    let read = c.loop-left.invariant.read honest opens in
+    let read = c.loop-left.invariant.read (c.pass.ensures.disk.any_moment.kept honest) opens in
     c.pass.ensures.damaged_behind (base_front c.args.base) read.0 honest read.2 (search rules) events (subst (λ (s : DiskState). IsJournalBehind (base_front c.args.base) s.contents events) (sym c.loop-left.invariant.state) is)
 
 pub returns-in_err-passed-clause-disk : goal.returns-in_err-passed-clause-disk

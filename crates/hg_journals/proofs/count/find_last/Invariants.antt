@@ -17,7 +17,7 @@ invariant-loop-left g l = record {
   failures : g.D.Disk.failures (disk_of l.journal) ≡ g.D.Disk.failures (disk_of l.fn.journal);
   few : l.left ≤ (MAX_BASE + 1) - l.fn.base;
   calls : CallsAtMost g.D.Disk (((MAX_BASE + 1) - l.fn.base) - l.left) (disk_of l.fn.journal) (disk_of l.journal);
-  read : IsTrue g.D.Disk.is_honest → OpensSome l.fn.journal l.fn.base → (seen : List Named) × (length seen + l.left ≡ (MAX_BASE + 1) - l.fn.base) × IsAtBehind (base_front l.fn.base) l.journal l.reader seen;
+  read : IsTrue (g.D.Disk.reads_were_true (disk_of l.journal)) → OpensSome l.fn.journal l.fn.base → (seen : List Named) × (length seen + l.left ≡ (MAX_BASE + 1) - l.fn.base) × IsAtBehind (base_front l.fn.base) l.journal l.reader seen;
 }
 
 abbrev pub decreases-loop-left : goal.decreases-loop-left

@@ -11,7 +11,7 @@ pub returns-in_err-len-clause-damaged : goal.returns-in_err-len-clause-damaged
 returns-in_err-len-clause-damaged g c honest is =
     let file = (g.D.Disk.state c.args.self.now.disk).contents in
     let same : c.in_err-len.field-0.0 ≡ Damaged = grind arith in
-    let gate : get_or file 0 0 ≡ open_gate = (c.in_ok-is_open.ensures.open honest).0 c.if-not-branch.false in (
+    let gate : get_or file 0 0 ≡ open_gate = (c.in_ok-is_open.ensures.open (c.read_head.ensures.reads.any_moment.kept honest)).0 c.if-not-branch.false in (
       not_closed file gate,
       λ body opened wanted. c.in_err-len.ensures.damaged honest (λ i. Err (same i)) body (subst (λ (s : DiskState). IsOpenWith body s.contents) (sym c.is_open.ensures.reads.state) opened),
     )
@@ -20,7 +20,7 @@ pub returns-then-not-may_want-clause-damaged : goal.returns-then-not-may_want-cl
 returns-then-not-may_want-clause-damaged g c honest is =
     let file = (g.D.Disk.state c.args.self.now.disk).contents in
     let n = c.in_ok-len.len in
-    let gate : get_or file 0 0 ≡ open_gate = (c.in_ok-is_open.ensures.open honest).0 c.if-not-branch.false in
+    let gate : get_or file 0 0 ≡ open_gate = (c.in_ok-is_open.ensures.open (c.read_head.ensures.reads.any_moment.kept honest)).0 c.if-not-branch.false in
     let bytes : (g.D.Disk.state c.is_open.new.disk).contents ≡ file = ap (λ (s : DiskState). s.contents) c.is_open.ensures.reads.state in
     let within : 9 + n ≤ length file = omega (arith, c.in_ok-len.ensures.within, ap length bytes) in
     let small : length file < 2 ^ 64 = let fits = c.in_ok-is_open.ensures.fits in omega (arith, fits) in
@@ -38,11 +38,11 @@ pub returns-clause-read : goal.returns-clause-read
 returns-clause-read g c honest =
     let file = (g.D.Disk.state c.args.self.now.disk).contents in
     let n = c.in_ok-len.len in
-    let gate : get_or file 0 0 ≡ open_gate = (c.in_ok-is_open.ensures.open honest).0 c.if-not-branch.false in
+    let gate : get_or file 0 0 ≡ open_gate = (c.in_ok-is_open.ensures.open (c.read_head.ensures.reads.any_moment.kept (c.read_vec.ensures.reads.any_moment.kept honest))).0 c.if-not-branch.false in
     let bytes : (g.D.Disk.state c.is_open.new.disk).contents ≡ file = ap (λ (s : DiskState). s.contents) c.is_open.ensures.reads.state in
     let later : (g.D.Disk.state c.read_head.new.disk).contents ≡ file = ap (λ (s : DiskState). s.contents) (c.read_head.ensures.reads.state ∙ c.is_open.ensures.reads.state) in
     let within : 9 + n ≤ length file = omega (arith, c.in_ok-len.ensures.within, ap length bytes) in
-    open_with file c.in_ok-body.body.items n within gate (ap (λ (l : List ℕ). take 8 (drop 1 l)) (sym bytes) ∙ c.in_ok-len.ensures.bytes honest)
+    open_with file c.in_ok-body.body.items n within gate (ap (λ (l : List ℕ). take 8 (drop 1 l)) (sym bytes) ∙ c.in_ok-len.ensures.bytes (c.read_vec.ensures.reads.any_moment.kept honest))
     (c.in_ok-body.ensures.bytes honest ∙ ap (λ (l : List ℕ). take n (drop 9 l)) later)
 
 pub returns-in_err-is_open-clause-reads : goal.returns-in_err-is_open-clause-reads

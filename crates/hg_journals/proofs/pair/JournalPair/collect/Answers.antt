@@ -4,6 +4,7 @@ use Rattle.hg_model.specs.declared.event.Named.{Named}
 use Rattle.hg_model.specs.declared.verdict.Refusal.{Refusal}
 use Rattle.hg_model.specs.declared.verdict.Refusal.TheVariants.{Damaged}
 use Rattle.hg_journals.proofs.Collecting.{found_wanted, inside, reads_on}
+use Rattle.hg_journals.proofs.Walking.{true_before}
 use Rattle.hg_journals.proofs.pair.JournalPair.collect.Goals as goal
 
 pub returns-in_err-reader-clause-whole : goal.returns-in_err-reader-clause-whole
@@ -19,8 +20,8 @@ returns-clause-found g c base events honest k =
     let p = c.args.self.now in
     let passed : c.saturating_sub-passed.result ≡ (c.args.from - 1) - p.base = grind arith in
     let wanted : c.min-wanted.result ≡ min c.args.max ((p.last - p.base) - ((c.args.from - 1) - p.base)) = grind arith in
-    let at = c.in_ok-reader.ensures.first base events honest k in
-    let got = c.take.ensures.found base events at.0 honest (c.in_ok-reader.ensures.keeps base events honest k) at.2 in
+    let at = c.in_ok-reader.ensures.first base events (true_before g.D.Disk c.min-wanted.result c.events_behind.new.self c.take.new.self c.take.result c.take.ensures.reads honest) k in
+    let got = c.take.ensures.found base events at.0 honest (c.in_ok-reader.ensures.keeps base events (true_before g.D.Disk c.min-wanted.result c.events_behind.new.self c.take.new.self c.take.result c.take.ensures.reads honest) k) at.2 in
     let place : length at.0 ≡ (c.args.from - 1) - base = omega (arith, at.1, k.begins, passed) in
     let size : length events ≡ p.last - p.base = omega (arith, k.begins, k.ends) in
     subst (λ (xs : List Named). IfOk c.take.result (λ found. found.items ≡ xs))
@@ -29,11 +30,11 @@ returns-clause-found g c base events honest k =
 
 pub returns-clause-whole : goal.returns-clause-whole
 returns-clause-whole g c base events honest k =
-    let at = c.in_ok-reader.ensures.first base events honest k in
-    c.take.ensures.whole base events at.0 honest (c.in_ok-reader.ensures.keeps base events honest k) at.2
+    let at = c.in_ok-reader.ensures.first base events (true_before g.D.Disk c.min-wanted.result c.events_behind.new.self c.take.new.self c.take.result c.take.ensures.reads honest) k in
+    c.take.ensures.whole base events at.0 honest (c.in_ok-reader.ensures.keeps base events (true_before g.D.Disk c.min-wanted.result c.events_behind.new.self c.take.new.self c.take.result c.take.ensures.reads honest) k) at.2
 
 pub returns-clause-keeps : goal.returns-clause-keeps
-returns-clause-keeps g c base events honest k = c.take.ensures.keeps base events (c.in_ok-reader.ensures.keeps base events honest k)
+returns-clause-keeps g c base events honest k = c.take.ensures.keeps base events (c.in_ok-reader.ensures.keeps base events (true_before g.D.Disk c.min-wanted.result c.events_behind.new.self c.take.new.self c.take.result c.take.ensures.reads honest) k)
 
 pub returns-clause-reads : goal.returns-clause-reads
 returns-clause-reads g c =

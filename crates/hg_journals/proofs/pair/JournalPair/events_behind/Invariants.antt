@@ -10,7 +10,7 @@ invariant-loop-left g l = record {
   works : is_broken l.self ≡ false;
   few : l.left ≤ l.fn.count - base_of l.fn.self;
   reads : Reads ((l.fn.count - base_of l.fn.self) - l.left) l.fn.self l.self (Ok l.left);
-  read : IfKeeps l.fn.self (λ base events. Keeps l.self base events × (seen : List Named) × (base + (length seen + l.left) ≡ l.fn.count) × IsAt l.self l.reader seen);
+  read : IfKeeps l.fn.self l.self (λ base events. Keeps l.self base events × (seen : List Named) × (base + (length seen + l.left) ≡ l.fn.count) × IsAt l.self l.reader seen);
   older : newer_base_of l.fn.self ≤ l.fn.count → (l.self.older ≡ l.fn.self.older) × IsTrue l.reader.in_newer;
 }
 

@@ -5,14 +5,14 @@ use Rattle.hg_model.specs.declared.verdict.Refusal.{Refusal}
 use Rattle.hg_model.specs.declared.verdict.Refusal.TheVariants.{Damaged, OutOfMemory}
 use Rattle.hg_journals.specs.Reading.{HasNext, IsAt}
 use Rattle.hg_journals.proofs.Collecting.{found_all, found_enough, one_more, reads_ok, reads_on, reads_refused, size_more, unread_pair}
-use Rattle.hg_journals.proofs.Walking.{front_read}
+use Rattle.hg_journals.proofs.Walking.{front_read, true_before}
 use Rattle.hg_journals.proofs.pair.JournalPair.take.Goals as goal
 
 pub returns-in_err-named-clause-whole : goal.returns-in_err-named-clause-whole
 returns-in_err-named-clause-whole g c base events seen honest k h =
     let l = c.loop-left in
     let same : c.from_residual.result ≡ Err c.in_err-named.field-0.0 = grind arith in
-    let stayed = c.in_err-named.ensures.stays base events (seen ++ l.found.items) honest (l.invariant.keeps base events k) (l.invariant.read base events seen honest k h) in
+    let stayed = c.in_err-named.ensures.stays base events (seen ++ l.found.items) honest (l.invariant.keeps base events k) (l.invariant.read base events seen (true_before g.D.Disk 1 l.self c.next.new.self c.next.result c.next.ensures.reads honest) k h) in
     subst (λ (r : Result (Vec Named) Refusal). IfErr r (λ e. e ≢ Damaged)) (sym same) stayed.0
 
 pub returns-in_err-named-clause-keeps : goal.returns-in_err-named-clause-keeps
@@ -29,7 +29,7 @@ returns-in_err-named-clause-reads g c =
 pub returns-in_default-clause-found : goal.returns-in_default-clause-found
 returns-in_default-clause-found g c base events seen honest k h =
     let l = c.loop-left in
-    let read = l.invariant.read base events seen honest k h in
+    let read = l.invariant.read base events seen (true_before g.D.Disk 1 l.self c.next.new.self c.next.result c.next.ensures.reads honest) k h in
     let all : seen ++ l.found.items ≡ events =
     subst (λ (found : Option Named). HasNext c.next.new.reader.in_newer c.next.new.self c.next.new.reader.reader events (seen ++ l.found.items) found) c.in_default.is
     (c.in_ok-named.ensures.next base events (seen ++ l.found.items) honest (l.invariant.keeps base events k) read) in
@@ -72,7 +72,7 @@ loop-left-preserved g c =
       read = λ base events seen honest k h.
           let more : IsAt c.next.new.self c.next.new.reader ((seen ++ l.found.items) ++ c.in-Some.named ∷ []) =
           subst (λ (found : Option Named). HasNext c.next.new.reader.in_newer c.next.new.self c.next.new.reader.reader events (seen ++ l.found.items) found) c.in-Some.is
-          (c.in_ok-named.ensures.next base events (seen ++ l.found.items) honest (l.invariant.keeps base events k) (l.invariant.read base events seen honest k h)) in
+          (c.in_ok-named.ensures.next base events (seen ++ l.found.items) honest (l.invariant.keeps base events k) (l.invariant.read base events seen (true_before g.D.Disk 1 l.self c.next.new.self c.next.result c.next.ensures.reads honest) k h)) in
           subst (λ (xs : List Named). IsAt c.next.new.self c.next.new.reader xs) (one_more seen l.found.items c.push.new.self.items c.in-Some.named c.in_ok-push.ensures.items) more;
       older = λ in_newer.
           let before = l.invariant.older in_newer in

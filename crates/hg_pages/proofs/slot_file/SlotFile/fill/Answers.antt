@@ -9,7 +9,7 @@ pub returns-in_err-read_at-clause-stays : goal.returns-in_err-read_at-clause-sta
 returns-in_err-read_at-clause-stays g c = record {
   known = search rules;
   state = c.read_at.ensures.state;
-  any_moment = read_leaves g.D.Disk c.args.self.now.disk c.read_at.new.self c.read_at.ensures.state c.read_at.ensures.clock;
+  any_moment = read_leaves g.D.Disk c.args.self.now.disk c.read_at.new.self c.read_at.ensures.state c.read_at.ensures.clock c.read_at.ensures.kept;
   calls = omega (arith, ap length c.read_at.ensures.clock);
   works = refl;
 }
@@ -18,7 +18,7 @@ pub returns-clause-stays : goal.returns-clause-stays
 returns-clause-stays g c = record {
   known = search rules;
   state = c.read_at.ensures.state;
-  any_moment = read_leaves g.D.Disk c.args.self.now.disk c.read_at.new.self c.read_at.ensures.state c.read_at.ensures.clock;
+  any_moment = read_leaves g.D.Disk c.args.self.now.disk c.read_at.new.self c.read_at.ensures.state c.read_at.ensures.clock c.read_at.ensures.kept;
   calls = omega (arith, ap length c.read_at.ensures.clock);
   works = refl;
 }
