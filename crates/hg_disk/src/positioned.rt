@@ -137,7 +137,6 @@ fn refuse(history: &mut History, error: &mut Option<io::Error>, call: Call)
 }
 
 impl<F: PositionedFile> Disk for PositionedDisk<F> {
-    ghost use Rattle.std.proofs.Common.{absurd};
     ghost use Rattle.std.proofs.lemmas.Bool.{false≢true};
     ghost use Rattle.hg_disk.specs.Positioned.{failures_of, past_of, reads_were_true_of, state_of};
 

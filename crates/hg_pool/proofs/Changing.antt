@@ -1,7 +1,7 @@
 -- What a step of a pool leaves, page by page.
 use Rattle.std.proofs.Common.{◌≡◌, ◌⊎◌, inl, inr, ◌<◌, ◌≤◌, ◌/◌, ◌%◌, ℕ, false, List, [], ◌∷◌, ◌≢◌, length, Option, Some, None, IsTrue, refl, sym, ap, subst, ◌∙◌, arith}
 use Rattle.hg_disk.specs.declared.disk.Disk as disk
-use Rattle.hg_disk.specs.Moments.{GoesOn, Leaves, LeavesOnly}
+use Rattle.hg_disk.specs.Moments.{GoesOn, Leaves, LeavesOnly, WereTrueBefore}
 use Rattle.hg_disk.specs.State.{IsImage}
 use Rattle.hg_disk.proofs.Moments.{started, weaker}
 use Rattle.hg_cells.specs.declared.cell.Cell.{Cell}
@@ -130,7 +130,7 @@ module _ {D : Type 0} (g : disk.Ghosts D) where
   still_file old new file root frozen sealed sealed_table limits none_waits =
       let same : disk_of new ≡ disk_of old = λ k. (file k).disk in
       record {
-        goes = ([], ap (λ (d : D). g.state d ∷ g.past d) same);
+        goes = ([], ap (λ (d : D). g.state d ∷ g.past d) same, subst (λ (d : D). WereTrueBefore g (disk_of old) d) (sym same) (λ were. were));
         works = λ works. sym (λ k. (file k).is_broken) ∙ works;
         breaks = (let equal = ap (λ (d : D). g.failures d) same in omega (arith, equal), inl (λ k. (file k).is_broken));
         root = root;
@@ -148,7 +148,7 @@ module _ {D : Type 0} (g : disk.Ghosts D) where
   pub quiet_file : (old new : ShownPool D) → LeavesOnly g (disk_of old) (disk_of new) (IsImage (g.state (disk_of old))) → (is_broken new ≡ false → is_broken old ≡ false) → BreaksByFailure g old new → new.root ≡ old.root → Extends old.frozen new.frozen
       → (IsTrue old.is_sealed → IsTrue new.is_sealed) → (IsTrue old.is_sealed → new.frozen ≡ old.frozen) → (new.most_frames ≡ old.most_frames) × (new.slots ≡ old.slots) → (old.waiting ≡ [] → new.waiting ≡ []) → FileStep old new
   quiet_file old new only works breaks root frozen sealed sealed_table limits none_waits = record {
-    goes = (only.later, only.has_gone);
+    goes = (only.later, only.has_gone, only.kept);
     works = works;
     breaks = breaks;
     root = root;
@@ -171,7 +171,7 @@ module _ {D : Type 0} (g : disk.Ghosts D) where
   written_file old new slot not_root not_frozen moments long works breaks root frozen sealed sealed_table limits none_waits =
       let all = long 0 (λ image is. omega arith) in
       record {
-        goes = (all.later, all.has_gone);
+        goes = (all.later, all.has_gone, all.kept);
         works = works;
         breaks = breaks;
         root = root;

@@ -41,6 +41,7 @@ module _ {D : Type 0} (g : disk.Ghosts D) (has_its_bytes : (d : D) → IsImage (
     has_gone = goes.1;
     first = λ image is x. (each x).first image is;
     each = each_all P goes.0 (λ x. subst (λ (states : List DiskState). EachLeaves (P x) states) (gone_once old new (each x).later goes.0 (each x).has_gone goes.1) (each x).each);
+    kept = goes.2;
   }
 
   abbrev has : (table : List (ℕ × ℕ)) → (ℕ → Cell) → Entry table → List ℕ → Type 0

@@ -83,7 +83,7 @@ module _ {D : Type 0} (g : disk.Ghosts D) where
 
   pub went_nowhere : (p : ShownPool D) → Went g p p
   went_nowhere p = record {
-    goes = ([], refl);
+    goes = ([], refl, λ were. were);
     works = λ works. works;
     breaks = (omega arith, inl refl);
     root = refl;
@@ -101,8 +101,8 @@ module _ {D : Type 0} (g : disk.Ghosts D) where
 
   goes_join : (old mid new : D) → GoesOn g old mid → GoesOn g mid new → GoesOn g old new
   goes_join old mid new one two =
-      let both = joined g old mid new (λ _. Unit {0}) (record { later = one.0; has_gone = one.1; first = λ _ _. tt; each = each_unit one.0 }) (record { later = two.0; has_gone = two.1; first = λ _ _. tt; each = each_unit two.0 }) in
-      (both.later, both.has_gone)
+      let both = joined g old mid new (λ _. Unit {0}) (record { later = one.0; has_gone = one.1; first = λ _ _. tt; each = each_unit one.0; kept = one.2 }) (record { later = two.0; has_gone = two.1; first = λ _ _. tt; each = each_unit two.0; kept = two.2 }) in
+      (both.later, both.has_gone, both.kept)
 
   named_join : (table after : List (ℕ × ℕ)) (old mid new : ShownPool D) → Extends table after → KeepsNamed g table old mid → KeepsNamed g after mid new → KeepsNamed g table old new
   named_join table after old mid new extends one two slot bytes named leaves =

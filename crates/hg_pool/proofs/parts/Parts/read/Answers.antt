@@ -32,7 +32,7 @@ returns-in_ok-read_page-in-Some-clause-cells g c h i lt =
     let p = c.args.self.now in
     let some : slot_in p.live.entries c.args.page ≡ Some c.in-Some.slot = search rules in
     let was = whole_before g.D.Disk (shown_of p) c.read_page.new.self c.read_page.ensures.stays.known h in
-    read_there g.D.Disk (shown_of p) c.args.page c.in-Some.slot i c.read_page.new.cells c.args.segments c.args.sets.now.sets (bytes_of g.D.Disk (record (shown_of p) { file = c.read_page.new.self })) lt some c.read_page.ensures.stays.known (c.in_ok-read_page-in-Some.ensures.read was.honest)
+    read_there g.D.Disk (shown_of p) c.args.page c.in-Some.slot i c.read_page.new.cells c.args.segments c.args.sets.now.sets (bytes_of g.D.Disk (record (shown_of p) { file = c.read_page.new.self })) lt some c.read_page.ensures.stays.known (c.in_ok-read_page-in-Some.ensures.read (g.met.D.Disk.honest_reads was.honest c.read_page.new.self.disk))
 
 pub returns-in_err-read_page-in-Some-clause-whole : goal.returns-in_err-read_page-in-Some-clause-whole
 returns-in_err-read_page-in-Some-clause-whole g c h known =
@@ -40,7 +40,7 @@ returns-in_err-read_page-in-Some-clause-whole g c h known =
     let refused = err_from_is_err_and c.from_residual.result c.from_residual.ensures.1 in
     let some : slot_in p.live.entries c.args.page ≡ Some c.in-Some.slot = search rules in
     rw (refused.1, refused.2)
-    (no_damage _ (λ damaged. stands_there g.D.Disk (shown_of p) c.args.page c.in-Some.slot c.args.segments c.args.sets.now.sets h some known (c.read_page.ensures.damaged h.honest (c.in_err-read_page-in-Some.was ∙ ap Err damaged))))
+    (no_damage _ (λ damaged. stands_there g.D.Disk (shown_of p) c.args.page c.in-Some.slot c.args.segments c.args.sets.now.sets h some known (c.read_page.ensures.damaged (g.met.D.Disk.honest_reads h.honest c.read_page.new.self.disk) (c.in_err-read_page-in-Some.was ∙ ap Err damaged))))
 
 pub returns-in_ok-read_page-in-Some-clause-named : goal.returns-in_ok-read_page-in-Some-clause-named
 returns-in_ok-read_page-in-Some-clause-named g c =
