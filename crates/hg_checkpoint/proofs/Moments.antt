@@ -15,4 +15,5 @@ module _ {D : Type 0} (g : disk.Ghosts D) where
     has_gone = goes.1;
     first = λ image is. has image (record { later = goes.0; has_gone = goes.1; among = inl is });
     each = all_among P goes.0 (λ image among. has image (record { later = goes.0; has_gone = goes.1; among = inr among }));
+    kept = goes.2;
   }

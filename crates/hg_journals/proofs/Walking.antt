@@ -52,12 +52,19 @@ module _ {D : Type 0} (g : disk.Ghosts D) where
   before true a b c d first second were = (second were.0, first were.1)
   before false a b c d first second were = (first were.0, second were.1)
 
-  -- if the reads were true after a call that reads, so were those before it
-  pub true_before : {T : Type 0} (most : ℕ) (old new : JournalPair D g) (result : Result T Refusal) → Reads most old new result → ReadsWereTrue new → ReadsWereTrue old
-  true_before most old new result r were =
+  -- if the reads were true after a call that reads both files, so were those before it
+  pub true_between : (old new : JournalPair D g) → new.is_turned ≡ old.is_turned → WereTrueBefore g (first_of old) (first_of new) → WereTrueBefore g (second_of old) (second_of new) → ReadsWereTrue new → ReadsWereTrue old
+  true_between old new turn first second were =
       before old.is_turned (older old) (older new) (newer old) (newer new)
-      (subst (λ (turned : Bool). WereTrueBefore g (first_of old) (if turned then newer new else older new)) r.same.turn r.first.any_moment.kept)
-      (subst (λ (turned : Bool). WereTrueBefore g (second_of old) (if turned then older new else newer new)) r.same.turn r.second.any_moment.kept) were
+      (subst (λ (turned : Bool). WereTrueBefore g (first_of old) (if turned then newer new else older new)) turn first)
+      (subst (λ (turned : Bool). WereTrueBefore g (second_of old) (if turned then older new else newer new)) turn second) were
+
+  pub true_before : {T : Type 0} (most : ℕ) (old new : JournalPair D g) (result : Result T Refusal) → Reads most old new result → ReadsWereTrue new → ReadsWereTrue old
+  true_before most old new result r were = true_between old new r.same.turn r.first.any_moment.kept r.second.any_moment.kept were
+
+  -- the reads of a pair over honest disks were true
+  pub true_of : (IsTrue g.is_honest → (d : D) → IsTrue (g.reads_were_true d)) → IsTrue g.is_honest → (p : JournalPair D g) → ReadsWereTrue p
+  true_of law honest p = (law honest (older p), law honest (newer p))
 
   -- those of the file that is not the current one, where that was not called
   pub older_true : (old new : JournalPair D g) → new.older ≡ old.older → ReadsWereTrue new → IsTrue (g.reads_were_true (older old))

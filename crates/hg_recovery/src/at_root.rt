@@ -13,7 +13,7 @@ ghost use Rattle.hg_pool.specs.Maps.{live};
 ghost use Rattle.hg_pool.specs.OfWords.{MayBring};
 ghost use Rattle.hg_root.specs.Checkpoints.{LieWithin};
 ghost use Rattle.hg_root.specs.Finding.{AreWhole, HasNoNewest, IsNewestOf, IsOnlyOf, IsWholeIn, WasRead, number_in, root_in};
-ghost use Rattle.hg_root.specs.Pairs.{IsWorking, failures, first_of, second_of};
+ghost use Rattle.hg_root.specs.Pairs.{IsWorking, ReadsWereTrue, failures, first_of, second_of};
 ghost use Rattle.hg_checkpoint.specs.Restoring.{file_in};
 ghost use Rattle.hg_recovery.specs.Answers.{CountsFailures, IfDamaged, IsOfRecovery, IsOfRoots, OnDamaged};
 ghost use Rattle.hg_recovery.specs.Detectors.{HasSize, IsAtRest, IsReady};
@@ -58,11 +58,11 @@ pub fn empty_detector<D: Disk>(
 /// The two roots of two files that can be used.
 fn newest<D: Disk>(alloc: Global, roots: &mut RootPair<D>) -> Result<Newest, Refusal>
     requires works { IsWorking roots.old }
-    ensures found { IsTrue D.is_honest → IfOk result (IsNewestOf ⟦<D as Disk>⟧ roots.old) }
-    ensures only { IsTrue D.is_honest → IfOk result (IsOnlyOf ⟦<D as Disk>⟧ roots.old) }
+    ensures found { ReadsWereTrue ⟦<D as Disk>⟧ roots.new → IfOk result (IsNewestOf ⟦<D as Disk>⟧ roots.old) }
+    ensures only { ReadsWereTrue ⟦<D as Disk>⟧ roots.new → IfOk result (IsOnlyOf ⟦<D as Disk>⟧ roots.old) }
     ensures whole { IfOk result AreWhole }
-    ensures stands { IsTrue D.is_honest → PairStands ⟦<D as Disk>⟧ roots.old roots.new result }
-    ensures damaged { IsTrue D.is_honest → OnDamaged result (HasNoNewest ⟦<D as Disk>⟧ roots.old) }
+    ensures stands { ReadsWereTrue ⟦<D as Disk>⟧ roots.new → PairStands ⟦<D as Disk>⟧ roots.old roots.new result }
+    ensures damaged { ReadsWereTrue ⟦<D as Disk>⟧ roots.new → OnDamaged result (HasNoNewest ⟦<D as Disk>⟧ roots.old) }
     ensures works { OnOk result (IsWorking roots.new) }
     ensures refusal { IfErr result IsOfRoots }
     ensures first { WasRead ⟦<D as Disk>⟧ (first_of roots.old) (first_of roots.new) }
@@ -95,11 +95,11 @@ fn standing<D: Disk>(
     file: &SlotFile<D>,
 ) -> Result<Option<Root>, Refusal>
     requires works { IsWorking roots.old }
-    ensures found { IsTrue D.is_honest → IfOk result (IsNewestRoot ⟦<D as Disk>⟧ roots.old) }
-    ensures only { IsTrue D.is_honest → IfOk result (IsOnlyRoot ⟦<D as Disk>⟧ roots.old) }
+    ensures found { ReadsWereTrue ⟦<D as Disk>⟧ roots.new → IfOk result (IsNewestRoot ⟦<D as Disk>⟧ roots.old) }
+    ensures only { ReadsWereTrue ⟦<D as Disk>⟧ roots.new → IfOk result (IsOnlyRoot ⟦<D as Disk>⟧ roots.old) }
     ensures whole { IfOk result IsWholeIn }
-    ensures stands { IsTrue D.is_honest → StandIfSettled ⟦<D as Disk>⟧ roots.old roots.new file.now result }
-    ensures damaged { IsTrue D.is_honest → OnDamaged result (HasNoneIn ⟦<D as Disk>⟧ roots.old file.now) }
+    ensures stands { ReadsWereTrue ⟦<D as Disk>⟧ roots.new → StandIfSettled ⟦<D as Disk>⟧ roots.old roots.new file.now result }
+    ensures damaged { ReadsWereTrue ⟦<D as Disk>⟧ roots.new → OnDamaged result (HasNoneIn ⟦<D as Disk>⟧ roots.old file.now) }
     ensures works { OnOk result (IsWorking roots.new) }
     ensures refusal { IfErr result IsOfRoots }
     ensures first { WasRead ⟦<D as Disk>⟧ (first_of roots.old) (first_of roots.new) }

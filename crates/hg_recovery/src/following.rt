@@ -3,7 +3,7 @@
 ghost use Rattle.std.specs.Prelude.{◌≡◌, ◌<◌, ◌+◌, IfErr, OnOk, false};
 ghost use Rattle.hg_detect.specs.Engine.{AtPresent};
 ghost use Rattle.hg_detect.specs.Shown.{content};
-ghost use Rattle.hg_journals.specs.Collecting.{KeepsIfHonest};
+ghost use Rattle.hg_journals.specs.Collecting.{KeepsIfTrue};
 ghost use Rattle.hg_journals.specs.Pairs.{StaysKept, is_broken};
 ghost use Rattle.hg_pool.specs.Answers.{IsFull};
 ghost use Rattle.hg_pool.specs.Kept.{Went};
@@ -104,7 +104,7 @@ pub fn replay<D: Disk>(
     ensures outside { RefusesOutside journals.old detector.old journals.new detector.new result }
     ensures full { TellsTrueFullSets journals.old detector.old result }
     ensures slots { OnFullSlots result (IsFull detector.new.words) }
-    ensures keeps { KeepsIfHonest journals.old journals.new }
+    ensures keeps { KeepsIfTrue journals.old journals.new }
     ensures unbroken { WorksOrFault result detector.new.words }
     ensures lawful { AtPresent MayBring detector.new }
     ensures faithful { StaysFaithful ⟦<D as Disk>⟧ detector.old detector.new }

@@ -219,6 +219,10 @@ module _ {D : Type 0} (g : disk.Ghosts D) where
   both_true_in b d e new first second were =
       both_true b d e (subst (λ (x : D). IsTrue (g.reads_were_true x)) first were.0, subst (λ (x : D). IsTrue (g.reads_were_true x)) second were.1)
 
+  -- the reads of a pair over honest disks were true
+  pub true_of : (IsTrue g.is_honest → (d : D) → IsTrue (g.reads_were_true d)) → IsTrue g.is_honest → (p : RootPair D) → ReadsWereTrue g p
+  true_of law honest p = (law honest (first_of p), law honest (second_of p))
+
   pub not_read : (d : D) → WasRead g d d
   not_read d = record { state = refl; any_moment = record { later = []; has_gone = refl; first = λ image is. is; each = tt; kept = λ were. were }; calls = omega arith }
 

@@ -74,6 +74,10 @@ impl TrialDisk {
 }
 
 impl Disk for TrialDisk {
+    ghost use Rattle.std.proofs.Common.{refl};
+
+    ghost reads_were_true = { λ _. true };
+
     ghost is_honest = { true };
 
     ghost state = { λ d. state_of d.disk };
@@ -83,6 +87,8 @@ impl Disk for TrialDisk {
     ghost failures = { λ d. failures_of d.disk };
 
     ghost has_its_bytes = { λ d. has_contents (start_of d.disk) (history_of d.disk) };
+
+    ghost honest_reads = { λ _ _. refl };
 
     fn len(&self) -> u64 {
         self.disk.len()

@@ -6,6 +6,7 @@ use Rattle.hg_model.specs.declared.verdict.Refusal.{Refusal}
 use Rattle.hg_model.specs.declared.verdict.Refusal.TheVariants as refusal
 use Rattle.hg_journals.specs.Pairs.{failures}
 use Rattle.hg_journals.specs.Reading.{HasNext, IsAt}
+use Rattle.hg_journals.proofs.Walking.{true_of}
 use Rattle.hg_pool.specs.OfWords.{went_nowhere, went_on}
 use Rattle.hg_recovery.specs.Answers.{IsOfRecovery, failed_in}
 use Rattle.hg_recovery.specs.Replaying.{CountsReplay, failures_in}
@@ -32,7 +33,7 @@ returns-in_err-named-clause-damaged g c base events seen honest k at faithful to
     let read = l.invariant.read base events seen honest k at faithful in
     let same : c.from_residual.result ≡ Err c.in_err-named.field-0.0 = grind arith in
     let is : c.in_err-named.field-0.0 ≡ refusal.Damaged = cc in
-    absurd ((c.in_err-named.ensures.stays base events (seen ++ read.since) honest (l.invariant.keeps base events k) read.at).0 is)
+    absurd ((c.in_err-named.ensures.stays base events (seen ++ read.since) (true_of g.D.Disk g.met.D.Disk.honest_reads honest c.next.new.self) (l.invariant.keeps base events k) read.at).0 is)
 
 pub returns-in_err-follow-in-Some-clause-damaged : goal.returns-in_err-follow-in-Some-clause-damaged
 returns-in_err-follow-in-Some-clause-damaged g c base events seen honest k at faithful told count lawful d lead =
@@ -40,7 +41,7 @@ returns-in_err-follow-in-Some-clause-damaged g c base events seen honest k at fa
     let read = l.invariant.read base events seen honest k at faithful in
     let kept = l.invariant.keeps base events k in
     let more : IsAt c.next.new.self c.next.new.reader ((seen ++ read.since) ++ c.in-Some.named ∷ []) =
-    subst (λ (found : Option Named). HasNext c.next.new.reader.in_newer c.next.new.self c.next.new.reader.reader events (seen ++ read.since) found) c.in-Some.is (c.in_ok-named.ensures.next base events (seen ++ read.since) honest kept read.at) in
+    subst (λ (found : Option Named). HasNext c.next.new.reader.in_newer c.next.new.self c.next.new.reader.reader events (seen ++ read.since) found) c.in-Some.is (c.in_ok-named.ensures.next base events (seen ++ read.since) (true_of g.D.Disk g.met.D.Disk.honest_reads honest c.next.new.self) kept read.at) in
     no_content g.D.Disk l.journals l.reader seen c.args.detector.now l.detector read c.next.new.self c.next.new.reader base events (c.next.ensures.keeps base events kept) c.in-Some.named more
     count (c.follow.ensures.damaged (l.invariant.faithful faithful) (read.lawful lawful) (search rules)) d lead
 
@@ -50,7 +51,7 @@ returns-in_err-follow-in-Some-clause-full g c base events seen honest k at faith
     let read = l.invariant.read base events seen honest k at faithful in
     let kept = l.invariant.keeps base events k in
     let more : IsAt c.next.new.self c.next.new.reader ((seen ++ read.since) ++ c.in-Some.named ∷ []) =
-    subst (λ (found : Option Named). HasNext c.next.new.reader.in_newer c.next.new.self c.next.new.reader.reader events (seen ++ read.since) found) c.in-Some.is (c.in_ok-named.ensures.next base events (seen ++ read.since) honest kept read.at) in
+    subst (λ (found : Option Named). HasNext c.next.new.reader.in_newer c.next.new.self c.next.new.reader.reader events (seen ++ read.since) found) c.in-Some.is (c.in_ok-named.ensures.next base events (seen ++ read.since) (true_of g.D.Disk g.met.D.Disk.honest_reads honest c.next.new.self) kept read.at) in
     let full = c.follow.ensures.full (l.invariant.faithful faithful) (search rules) in
     too_small g.D.Disk l.journals l.reader seen c.args.detector.now l.detector read c.next.new.self c.next.new.reader base events (c.next.ensures.keeps base events kept) c.in-Some.named more count _ full.0 full.1
 
@@ -59,7 +60,7 @@ returns-in-None-clause-followed g c base events seen honest k at faithful =
     let l = c.loop-number in
     let read = l.invariant.read base events seen honest k at faithful in
     let all : seen ++ read.since ≡ events =
-    subst (λ (found : Option Named). HasNext c.next.new.reader.in_newer c.next.new.self c.next.new.reader.reader events (seen ++ read.since) found) c.in-None.is (c.in_ok-named.ensures.next base events (seen ++ read.since) honest (l.invariant.keeps base events k) read.at) in
+    subst (λ (found : Option Named). HasNext c.next.new.reader.in_newer c.next.new.self c.next.new.reader.reader events (seen ++ read.since) found) c.in-None.is (c.in_ok-named.ensures.next base events (seen ++ read.since) (true_of g.D.Disk g.met.D.Disk.honest_reads honest c.next.new.self) (l.invariant.keeps base events k) read.at) in
     (read.since, all, read.gives, read.fills)
 
 pub returns-in_err-follow-in-Some-clause-went : goal.returns-in_err-follow-in-Some-clause-went
@@ -89,7 +90,7 @@ loop-number-preserved g c =
           let kept = l.invariant.keeps base events k in
           let was = l.invariant.faithful faithful in
           let more : IsAt c.next.new.self c.next.new.reader ((seen ++ read.since) ++ c.in-Some.named ∷ []) =
-          subst (λ (found : Option Named). HasNext c.next.new.reader.in_newer c.next.new.self c.next.new.reader.reader events (seen ++ read.since) found) c.in-Some.is (c.in_ok-named.ensures.next base events (seen ++ read.since) honest kept read.at) in
+          subst (λ (found : Option Named). HasNext c.next.new.reader.in_newer c.next.new.self c.next.new.reader.reader events (seen ++ read.since) found) c.in-Some.is (c.in_ok-named.ensures.next base events (seen ++ read.since) (true_of g.D.Disk g.met.D.Disk.honest_reads honest c.next.new.self) kept read.at) in
           read_more g.D.Disk l.journals l.reader seen c.args.detector.now l.detector read c.next.new.self c.next.new.reader base events (c.next.ensures.keeps base events kept) c.in-Some.named more
           c.follow.new.detector c.in_ok-follow-in-Some.ensures.accepted (c.in_ok-follow-in-Some.ensures.content was) (c.in_ok-follow-in-Some.ensures.asked was) (c.follow.ensures.faithful was);
       few = λ f.

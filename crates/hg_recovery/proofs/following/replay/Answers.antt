@@ -6,7 +6,7 @@ use Rattle.hg_model.specs.declared.verdict.Refusal.{Refusal}
 use Rattle.hg_model.specs.Parts.{Parts}
 use Rattle.hg_journals.specs.Collecting.{HasOutside}
 use Rattle.hg_journals.specs.Pairs.{base_of, failures, last_of}
-use Rattle.hg_journals.proofs.Walking.{front_read}
+use Rattle.hg_journals.proofs.Walking.{front_read, true_between, true_of}
 use Rattle.hg_pool.specs.Maps as pools
 use Rattle.hg_pool.specs.OfWords.{went_nowhere}
 use Rattle.hg_recovery.specs.Answers.{CountsFailures, IsOfRecovery, failed_in}
@@ -20,7 +20,7 @@ use Rattle.hg_recovery.proofs.following.replay.Goals as goal
 pub returns-in_err-reader-clause-damaged : goal.returns-in_err-reader-clause-damaged
 returns-in_err-reader-clause-damaged g c base events honest k faithful told lawful d lead =
     let count : c.events.result ≡ (content_in g.D.Disk c.args.detector.now).events = c.events.ensures ∙ ap (λ (p : Parts). p.events) c.state.ensures in
-    let out = c.in_err-reader.ensures.damaged base events honest k (search rules) in
+    let out = c.in_err-reader.ensures.damaged base events (true_of g.D.Disk g.met.D.Disk.honest_reads honest c.events_behind.new.self) k (search rules) in
     no_lead g.D.Disk c.args.journals.now base events k (content_in g.D.Disk c.args.detector.now) d (subst (λ (n : ℕ). HasOutside n c.args.journals.now) count out) lead
 
 pub returns-in_err-reader-clause-outside : goal.returns-in_err-reader-clause-outside
@@ -34,8 +34,8 @@ returns-clause-replayed g c base events honest k faithful =
     let count : c.events.result ≡ (content_in g.D.Disk c.args.detector.now).events = c.events.ensures ∙ ap (λ (p : Parts). p.events) c.state.ensures in
     let first = content_in g.D.Disk c.args.detector.now in
     let last = content_in g.D.Disk c.follow_rest.new.detector in
-    let begun = c.in_ok-reader.ensures.first base events honest k in
-    let kept = c.events_behind.ensures.keeps base events honest k in
+    let begun = c.in_ok-reader.ensures.first base events (true_of g.D.Disk g.met.D.Disk.honest_reads honest c.events_behind.new.self) k in
+    let kept = c.events_behind.ensures.keeps base events (true_of g.D.Disk g.met.D.Disk.honest_reads honest c.events_behind.new.self) k in
     on_ok c.follow_rest.result (λ rest. all_led base begun.0 rest.0 events first last (begun.1 ∙ count) rest.1 rest.2) (c.follow_rest.ensures.followed base events begun.0 honest kept begun.2 faithful)
 
 pub returns-clause-sets : goal.returns-clause-sets
@@ -43,8 +43,8 @@ returns-clause-sets g c base events honest k faithful =
     let count : c.events.result ≡ (content_in g.D.Disk c.args.detector.now).events = c.events.ensures ∙ ap (λ (p : Parts). p.events) c.state.ensures in
     let first = content_in g.D.Disk c.args.detector.now in
     let last = content_in g.D.Disk c.follow_rest.new.detector in
-    let begun = c.in_ok-reader.ensures.first base events honest k in
-    let kept = c.events_behind.ensures.keeps base events honest k in
+    let begun = c.in_ok-reader.ensures.first base events (true_of g.D.Disk g.met.D.Disk.honest_reads honest c.events_behind.new.self) k in
+    let kept = c.events_behind.ensures.keeps base events (true_of g.D.Disk g.met.D.Disk.honest_reads honest c.events_behind.new.self) k in
     on_ok c.follow_rest.result
     (λ rest. subst (λ (l : List Named). Fills l first c.args.detector.now.sets last c.follow_rest.new.detector.sets) (sym (rest_is base first.events begun.0 rest.0 events (begun.1 ∙ count) rest.1)) rest.3)
     (c.follow_rest.ensures.followed base events begun.0 honest kept begun.2 faithful)
@@ -52,17 +52,20 @@ returns-clause-sets g c base events honest k faithful =
 pub returns-clause-damaged : goal.returns-clause-damaged
 returns-clause-damaged g c base events honest k faithful told =
     let count : c.events.result ≡ (content_in g.D.Disk c.args.detector.now).events = c.events.ensures ∙ ap (λ (p : Parts). p.events) c.state.ensures in
-    let begun = c.in_ok-reader.ensures.first base events honest k in
-    c.follow_rest.ensures.damaged base events begun.0 honest (c.events_behind.ensures.keeps base events honest k) begun.2 faithful told (begun.1 ∙ count)
+    let begun = c.in_ok-reader.ensures.first base events (true_of g.D.Disk g.met.D.Disk.honest_reads honest c.events_behind.new.self) k in
+    c.follow_rest.ensures.damaged base events begun.0 honest (c.events_behind.ensures.keeps base events (true_of g.D.Disk g.met.D.Disk.honest_reads honest c.events_behind.new.self) k) begun.2 faithful told (begun.1 ∙ count)
 
 pub returns-clause-full : goal.returns-clause-full
 returns-clause-full g c base events honest k faithful told =
     let count : c.events.result ≡ (content_in g.D.Disk c.args.detector.now).events = c.events.ensures ∙ ap (λ (p : Parts). p.events) c.state.ensures in
-    let begun = c.in_ok-reader.ensures.first base events honest k in
-    c.follow_rest.ensures.full base events begun.0 honest (c.events_behind.ensures.keeps base events honest k) begun.2 faithful told (begun.1 ∙ count)
+    let begun = c.in_ok-reader.ensures.first base events (true_of g.D.Disk g.met.D.Disk.honest_reads honest c.events_behind.new.self) k in
+    c.follow_rest.ensures.full base events begun.0 honest (c.events_behind.ensures.keeps base events (true_of g.D.Disk g.met.D.Disk.honest_reads honest c.events_behind.new.self) k) begun.2 faithful told (begun.1 ∙ count)
 
 pub returns-clause-keeps : goal.returns-clause-keeps
-returns-clause-keeps g c base events honest k = c.follow_rest.ensures.keeps base events (c.events_behind.ensures.keeps base events honest k)
+returns-clause-keeps g c base events were k =
+    let files = c.follow_rest.ensures.files in
+    let before = true_between g.D.Disk c.events_behind.new.self c.follow_rest.new.journals files.same.turn files.first.any_moment.kept files.second.any_moment.kept were in
+    c.follow_rest.ensures.keeps base events (c.events_behind.ensures.keeps base events before k)
 
 pub returns-clause-ready : goal.returns-clause-ready
 returns-clause-ready g c base events honest k faithful ready =
@@ -70,8 +73,8 @@ returns-clause-ready g c base events honest k faithful ready =
     let old = c.args.detector.now in
     let new = c.follow_rest.new.detector in
     let first = content_in g.D.Disk old in
-    let begun = c.in_ok-reader.ensures.first base events honest k in
-    let kept = c.events_behind.ensures.keeps base events honest k in
+    let begun = c.in_ok-reader.ensures.first base events (true_of g.D.Disk g.met.D.Disk.honest_reads honest c.events_behind.new.self) k in
+    let kept = c.events_behind.ensures.keeps base events (true_of g.D.Disk g.met.D.Disk.honest_reads honest c.events_behind.new.self) k in
     on_ok c.follow_rest.result
     (λ rest. now_ready g.D.Disk c.args.journals.now base events k old new (all_led base begun.0 rest.0 events first (content_in g.D.Disk new) (begun.1 ∙ count) rest.1 rest.2)
     (subst (λ (l : List Named). Fills l first old.sets (content_in g.D.Disk new) new.sets) (sym (rest_is base first.events begun.0 rest.0 events (begun.1 ∙ count) rest.1)) rest.3)
@@ -80,10 +83,10 @@ returns-clause-ready g c base events honest k faithful ready =
 
 pub returns-clause-limit : goal.returns-clause-limit
 returns-clause-limit g c base events honest k faithful =
-    let begun = c.in_ok-reader.ensures.first base events honest k in
+    let begun = c.in_ok-reader.ensures.first base events (true_of g.D.Disk g.met.D.Disk.honest_reads honest c.events_behind.new.self) k in
     on_ok c.follow_rest.result
     (λ rest. fills_limit rest.0 (content_in g.D.Disk c.args.detector.now) c.args.detector.now.sets (content_in g.D.Disk c.follow_rest.new.detector) c.follow_rest.new.detector.sets rest.3)
-    (c.follow_rest.ensures.followed base events begun.0 honest (c.events_behind.ensures.keeps base events honest k) begun.2 faithful)
+    (c.follow_rest.ensures.followed base events begun.0 honest (c.events_behind.ensures.keeps base events (true_of g.D.Disk g.met.D.Disk.honest_reads honest c.events_behind.new.self) k) begun.2 faithful)
 
 pub returns-in_err-reader-clause-files : goal.returns-in_err-reader-clause-files
 returns-in_err-reader-clause-files g c =
@@ -113,8 +116,8 @@ returns-clause-calls g c base events honest k faithful =
     let n = c.events.result - base_of c.args.journals.now in
     let old = c.args.journals.now in
     let mid = c.events_behind.new.self in
-    let begun = c.in_ok-reader.ensures.first base events honest k in
-    let kept = c.events_behind.ensures.keeps base events honest k in
+    let begun = c.in_ok-reader.ensures.first base events (true_of g.D.Disk g.met.D.Disk.honest_reads honest c.events_behind.new.self) k in
+    let kept = c.events_behind.ensures.keeps base events (true_of g.D.Disk g.met.D.Disk.honest_reads honest c.events_behind.new.self) k in
     let reader = c.in_ok-reader.reader in
     let left = front_read g.D.Disk mid base events kept reader.in_newer reader.reader begun.0 begun.2 in
     let few = few_then base begun.0 left.0 events c.events.result begun.1 left.1 in
