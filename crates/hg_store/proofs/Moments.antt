@@ -31,7 +31,7 @@ module _ {D : Type 0} (g : disk.Ghosts D) where
     each_image = record {
       journal0 = moved.journals.first_goes;
       journal1 = moved.journals.second_goes;
-      slots = (moved.slots.later, moved.slots.has_gone);
+      slots = (moved.slots.later, moved.slots.has_gone, moved.slots.kept);
       root0 = moved.roots.first_goes;
       root1 = moved.roots.second_goes;
       each = λ image may. joint_images basis pending in_doubt d live image gives leads (record {

@@ -18,8 +18,8 @@ use Rattle.hg_store.specs.Kept.{IsFreezing, IsInProgress, IsRooting, Parts, Stan
 pub images_left : {D : Type 0} (g : disk.Ghosts D) (old : Devices D) (journal0 journal1 : D) → AddsNoImage g old.journal0 journal0 → AddsNoImage g old.journal1 journal1
     → EachImage g old (record old { journal0 = journal0; journal1 = journal1 }) (IsLeft (states_of g old))
 images_left g old journal0 journal1 one two = record {
-  journal0 = (one.later, one.has_gone);
-  journal1 = (two.later, two.has_gone);
+  journal0 = (one.later, one.has_gone, one.kept);
+  journal1 = (two.later, two.has_gone, two.kept);
   slots = stays g old.slots;
   root0 = stays g old.root0;
   root1 = stays g old.root1;

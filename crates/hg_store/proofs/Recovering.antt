@@ -65,11 +65,11 @@ module _ {D : Type 0} (g : disk.Ghosts D) where
     -- the devices were read
     pub read_alone : Stay g old new → EachImage g old new (HasContentOf (read_of g old))
     read_alone stay = record {
-      journal0 = (stay.journal0.later, stay.journal0.has_gone);
-      journal1 = (stay.journal1.later, stay.journal1.has_gone);
-      slots = (stay.slots.later, stay.slots.has_gone);
-      root0 = (stay.root0.later, stay.root0.has_gone);
-      root1 = (stay.root1.later, stay.root1.has_gone);
+      journal0 = (stay.journal0.later, stay.journal0.has_gone, stay.journal0.kept);
+      journal1 = (stay.journal1.later, stay.journal1.has_gone, stay.journal1.kept);
+      slots = (stay.slots.later, stay.slots.has_gone, stay.slots.kept);
+      root0 = (stay.root0.later, stay.root0.has_gone, stay.root0.kept);
+      root1 = (stay.root1.later, stay.root1.has_gone, stay.root1.kept);
       each = λ image may c has.
           let journal0 : image.journal0 ≡ (g.state old.journal0).contents =
           one_image (g.state old.journal0) image.journal0 at.journal0 (may_leave g old.journal0 new.journal0 (IsImage (g.state old.journal0)) image.journal0 stay.journal0 may.journal0) in
@@ -92,11 +92,11 @@ module _ {D : Type 0} (g : disk.Ghosts D) where
         → LeavesOnly g old.root0 new.root0 (IsImage (g.state old.root0)) → LeavesOnly g old.root1 new.root1 (IsImage (g.state old.root1))
         → EachImage g old new (HasContentOf (read_of g old))
     with_pages most number d roots rooted journal0 journal1 slots root0 root1 = record {
-      journal0 = (journal0.later, journal0.has_gone);
-      journal1 = (journal1.later, journal1.has_gone);
-      slots = (slots.later, slots.has_gone);
-      root0 = (root0.later, root0.has_gone);
-      root1 = (root1.later, root1.has_gone);
+      journal0 = (journal0.later, journal0.has_gone, journal0.kept);
+      journal1 = (journal1.later, journal1.has_gone, journal1.kept);
+      slots = (slots.later, slots.has_gone, slots.kept);
+      root0 = (root0.later, root0.has_gone, root0.kept);
+      root1 = (root1.later, root1.has_gone, root1.kept);
       each = λ image may c has.
           let same_journal0 : (g.state old.journal0).contents ≡ image.journal0 =
           sym (one_image (g.state old.journal0) image.journal0 at.journal0 (may_leave g old.journal0 new.journal0 (IsImage (g.state old.journal0)) image.journal0 journal0 may.journal0)) in
@@ -144,11 +144,11 @@ module _ {D : Type 0} (g : disk.Ghosts D) where
 
   pub stay_images : (old new : Devices D) → Stay g old new → EachImage g old new (HasContentOfOne g old)
   stay_images old new stay = record {
-    journal0 = (stay.journal0.later, stay.journal0.has_gone);
-    journal1 = (stay.journal1.later, stay.journal1.has_gone);
-    slots = (stay.slots.later, stay.slots.has_gone);
-    root0 = (stay.root0.later, stay.root0.has_gone);
-    root1 = (stay.root1.later, stay.root1.has_gone);
+    journal0 = (stay.journal0.later, stay.journal0.has_gone, stay.journal0.kept);
+    journal1 = (stay.journal1.later, stay.journal1.has_gone, stay.journal1.kept);
+    slots = (stay.slots.later, stay.slots.has_gone, stay.slots.kept);
+    root0 = (stay.root0.later, stay.root0.has_gone, stay.root0.kept);
+    root1 = (stay.root1.later, stay.root1.has_gone, stay.root1.kept);
     each = λ image may. of_left old image (record {
       journal0 = may_leave g old.journal0 new.journal0 (IsImage (g.state old.journal0)) image.journal0 stay.journal0 may.journal0;
       journal1 = may_leave g old.journal1 new.journal1 (IsImage (g.state old.journal1)) image.journal1 stay.journal1 may.journal1;

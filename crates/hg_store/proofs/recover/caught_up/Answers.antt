@@ -6,6 +6,7 @@ use Rattle.hg_model.specs.declared.verdict.Refusal.TheVariants.{FullSlots}
 use Rattle.hg_detect.specs.Shown as detect
 use Rattle.hg_images.specs.Images.{LeadFrom}
 use Rattle.hg_images.specs.Steps.{resting}
+use Rattle.hg_journals.proofs.Walking.{true_of}
 use Rattle.hg_pool.specs.Maps as pools
 use Rattle.hg_pool.specs.Shown as pool
 use Rattle.hg_recovery.specs.Filling.{HasSets}
@@ -30,7 +31,7 @@ made-requires-clause-stands g c honest =
     let stand = c.new-checkpointer.ensures.stands _ now.former started.stands in (
       resting base events now,
       based g.D.Disk g.met.D.Disk.has_its_bytes c.args.detector c.args.roots c.args.number now started c.replay.new.detector c.replay.ensures.went c.replay.new.journals base events c.new-checkpointer.result
-          c.events-counted.result (c.replay.ensures.keeps base events honest keeps) led stand c.new-checkpointer.ensures.number (c.events-counted.ensures ∙ ap (λ (p : model.Parts). p.events) c.state.ensures),
+          c.events-counted.result (c.replay.ensures.keeps base events (true_of g.D.Disk g.met.D.Disk.honest_reads honest c.replay.new.journals) keeps) led stand c.new-checkpointer.ensures.number (c.events-counted.ensures ∙ ap (λ (p : model.Parts). p.events) c.state.ensures),
       c.in-Ok.ensures.ready base events honest keeps faithful started.ready,
     )
 
@@ -39,7 +40,7 @@ returns-clause-content g c now base events honest started keeps =
     let led = c.in-Ok.ensures.replayed base events honest keeps started.ready.faithful in
     let stand = c.new-checkpointer.ensures.stands _ now.former started.stands in
     let is = based g.D.Disk g.met.D.Disk.has_its_bytes c.args.detector c.args.roots c.args.number now started c.replay.new.detector c.replay.ensures.went c.replay.new.journals base events c.new-checkpointer.result
-    c.events-counted.result (c.replay.ensures.keeps base events honest keeps) led stand c.new-checkpointer.ensures.number (c.events-counted.ensures ∙ ap (λ (p : model.Parts). p.events) c.state.ensures) in
+    c.events-counted.result (c.replay.ensures.keeps base events (true_of g.D.Disk g.met.D.Disk.honest_reads honest c.replay.new.journals) keeps) led stand c.new-checkpointer.ensures.number (c.events-counted.ensures ∙ ap (λ (p : model.Parts). p.events) c.state.ensures) in
     (_, is.gives, c.made.ensures.fresh (resting base events now) is)
 
 pub returns-in-Err-clause-damaged : goal.returns-in-Err-clause-damaged

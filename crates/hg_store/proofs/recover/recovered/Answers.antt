@@ -29,7 +29,7 @@ use Rattle.hg_store.proofs.recover.recovered.Goals as goal
 
 pub returns-in-Err-clause-damaged : goal.returns-in-Err-clause-damaged
 returns-in-Err-clause-damaged g c honest told d has =
-    c.in-Err.ensures.damaged honest (c.requires.settled.journal0, c.requires.settled.journal1) told has.base has.events has.journals
+    c.in-Err.ensures.damaged (g.met.D.Disk.honest_reads honest _, g.met.D.Disk.honest_reads honest _) (c.requires.settled.journal0, c.requires.settled.journal1) told has.base has.events has.journals
 
 pub returns-in-Err-clause-images : goal.returns-in-Err-clause-images
 returns-in-Err-clause-images g c honest =
@@ -48,7 +48,7 @@ returns-in-Err-clause-images g c honest =
 pub caught_up-requires-clause-started : goal.caught_up-requires-clause-started
 caught_up-requires-clause-started g c honest =
     let old = c.args.devices in
-    let some = c.in-Ok.ensures.keeps honest (c.requires.settled.journal0, c.requires.settled.journal1) in
+    let some = c.in-Ok.ensures.keeps (g.met.D.Disk.honest_reads honest _, g.met.D.Disk.honest_reads honest _) (c.requires.settled.journal0, c.requires.settled.journal1) in
     let rooted = c.in-Ok-rooted.ensures.rooted honest (g.D.Disk.state old.root0).contents (g.D.Disk.state old.root1).contents (g.D.Disk.state old.slots).contents
     (ap (λ d. g.D.Disk.state d) c.attach-roots.ensures.first ∙ c.requires.settled.root0)
     (ap (λ d. g.D.Disk.state d) c.attach-roots.ensures.second ∙ c.requires.settled.root1)
@@ -58,7 +58,7 @@ caught_up-requires-clause-started g c honest =
 pub returns-in-Ok-caught_up-clause-content : goal.returns-in-Ok-caught_up-clause-content
 returns-in-Ok-caught_up-clause-content g c honest =
     let old = c.args.devices in
-    let some = c.in-Ok.ensures.keeps honest (c.requires.settled.journal0, c.requires.settled.journal1) in
+    let some = c.in-Ok.ensures.keeps (g.met.D.Disk.honest_reads honest _, g.met.D.Disk.honest_reads honest _) (c.requires.settled.journal0, c.requires.settled.journal1) in
     let have = kept_of g.D.Disk c.in-Ok.journals some.0 some.1 some.2 old.journal0 old.journal1 c.in-Ok.ensures.first.state c.in-Ok.ensures.second.state in
     let rooted = c.in-Ok-rooted.ensures.rooted honest (g.D.Disk.state old.root0).contents (g.D.Disk.state old.root1).contents (g.D.Disk.state old.slots).contents
     (ap (λ d. g.D.Disk.state d) c.attach-roots.ensures.first ∙ c.requires.settled.root0)
@@ -80,7 +80,7 @@ returns-in-Ok-caught_up-clause-content g c honest =
 pub returns-in-Ok-caught_up-clause-sets : goal.returns-in-Ok-caught_up-clause-sets
 returns-in-Ok-caught_up-clause-sets g c honest =
     let old = c.args.devices in
-    let some = c.in-Ok.ensures.keeps honest (c.requires.settled.journal0, c.requires.settled.journal1) in
+    let some = c.in-Ok.ensures.keeps (g.met.D.Disk.honest_reads honest _, g.met.D.Disk.honest_reads honest _) (c.requires.settled.journal0, c.requires.settled.journal1) in
     let have = kept_of g.D.Disk c.in-Ok.journals some.0 some.1 some.2 old.journal0 old.journal1 c.in-Ok.ensures.first.state c.in-Ok.ensures.second.state in
     let store = c.in-Ok-caught_up.store in
     let rooted = c.in-Ok-rooted.ensures.rooted honest (g.D.Disk.state old.root0).contents (g.D.Disk.state old.root1).contents (g.D.Disk.state old.slots).contents
@@ -122,7 +122,7 @@ returns-in-Ok-caught_up-clause-images g c honest =
 pub returns-in-Err-caught_up-clause-damaged : goal.returns-in-Err-caught_up-clause-damaged
 returns-in-Err-caught_up-clause-damaged g c honest told d has =
     let old = c.args.devices in
-    let some = c.in-Ok.ensures.keeps honest (c.requires.settled.journal0, c.requires.settled.journal1) in
+    let some = c.in-Ok.ensures.keeps (g.met.D.Disk.honest_reads honest _, g.met.D.Disk.honest_reads honest _) (c.requires.settled.journal0, c.requires.settled.journal1) in
     let have = kept_of g.D.Disk c.in-Ok.journals some.0 some.1 some.2 old.journal0 old.journal1 c.in-Ok.ensures.first.state c.in-Ok.ensures.second.state in
     let rooted = c.in-Ok-rooted.ensures.rooted honest (g.D.Disk.state old.root0).contents (g.D.Disk.state old.root1).contents (g.D.Disk.state old.slots).contents
     (ap (λ d. g.D.Disk.state d) c.attach-roots.ensures.first ∙ c.requires.settled.root0)
@@ -134,7 +134,7 @@ returns-in-Err-caught_up-clause-damaged g c honest told d has =
 pub returns-in-Err-caught_up-clause-full : goal.returns-in-Err-caught_up-clause-full
 returns-in-Err-caught_up-clause-full g c honest told =
     let old = c.args.devices in
-    let some = c.in-Ok.ensures.keeps honest (c.requires.settled.journal0, c.requires.settled.journal1) in
+    let some = c.in-Ok.ensures.keeps (g.met.D.Disk.honest_reads honest _, g.met.D.Disk.honest_reads honest _) (c.requires.settled.journal0, c.requires.settled.journal1) in
     let have = kept_of g.D.Disk c.in-Ok.journals some.0 some.1 some.2 old.journal0 old.journal1 c.in-Ok.ensures.first.state c.in-Ok.ensures.second.state in
     let rooted = c.in-Ok-rooted.ensures.rooted honest (g.D.Disk.state old.root0).contents (g.D.Disk.state old.root1).contents (g.D.Disk.state old.slots).contents
     (ap (λ d. g.D.Disk.state d) c.attach-roots.ensures.first ∙ c.requires.settled.root0)
@@ -219,7 +219,7 @@ returns-in-Ok-caught_up-clause-limits g c =
       slots = went.limits.1 ∙ size.slots;
       sets = λ honest.
           let old = c.args.devices in
-          let some = c.in-Ok.ensures.keeps honest (c.requires.settled.journal0, c.requires.settled.journal1) in
+          let some = c.in-Ok.ensures.keeps (g.met.D.Disk.honest_reads honest _, g.met.D.Disk.honest_reads honest _) (c.requires.settled.journal0, c.requires.settled.journal1) in
           let rooted = c.in-Ok-rooted.ensures.rooted honest (g.D.Disk.state old.root0).contents (g.D.Disk.state old.root1).contents (g.D.Disk.state old.slots).contents
           (ap (λ d. g.D.Disk.state d) c.attach-roots.ensures.first ∙ c.requires.settled.root0)
           (ap (λ d. g.D.Disk.state d) c.attach-roots.ensures.second ∙ c.requires.settled.root1)

@@ -15,7 +15,7 @@ last_sync g old new before after (Err error) ok err clock count grows = inr (rec
 
 pub returns-in_err-sync-clause-stay : goal.returns-in_err-sync-clause-stay
 returns-in_err-sync-clause-stay g c = record {
-  journal0 = sync_leaves g.D.Disk c.args.devices.now.journal0 _ c.sync.result g.met.D.Disk.has_its_bytes c.sync.ensures.ok c.sync.ensures.err c.sync.ensures.clock;
+  journal0 = sync_leaves g.D.Disk c.args.devices.now.journal0 _ c.sync.result g.met.D.Disk.has_its_bytes c.sync.ensures.ok c.sync.ensures.err c.sync.ensures.clock c.sync.ensures.kept;
   journal1 = same g.D.Disk c.args.devices.now.journal1;
   slots = same g.D.Disk c.args.devices.now.slots;
   root0 = same g.D.Disk c.args.devices.now.root0;
@@ -24,8 +24,8 @@ returns-in_err-sync-clause-stay g c = record {
 
 pub returns-in_err-sync-2-clause-stay : goal.returns-in_err-sync-2-clause-stay
 returns-in_err-sync-2-clause-stay g c = record {
-  journal0 = sync_leaves g.D.Disk c.args.devices.now.journal0 _ c.sync.result g.met.D.Disk.has_its_bytes c.sync.ensures.ok c.sync.ensures.err c.sync.ensures.clock;
-  journal1 = sync_leaves g.D.Disk c.args.devices.now.journal1 _ c.sync-2.result g.met.D.Disk.has_its_bytes c.sync-2.ensures.ok c.sync-2.ensures.err c.sync-2.ensures.clock;
+  journal0 = sync_leaves g.D.Disk c.args.devices.now.journal0 _ c.sync.result g.met.D.Disk.has_its_bytes c.sync.ensures.ok c.sync.ensures.err c.sync.ensures.clock c.sync.ensures.kept;
+  journal1 = sync_leaves g.D.Disk c.args.devices.now.journal1 _ c.sync-2.result g.met.D.Disk.has_its_bytes c.sync-2.ensures.ok c.sync-2.ensures.err c.sync-2.ensures.clock c.sync-2.ensures.kept;
   slots = same g.D.Disk c.args.devices.now.slots;
   root0 = same g.D.Disk c.args.devices.now.root0;
   root1 = same g.D.Disk c.args.devices.now.root1;
@@ -33,29 +33,29 @@ returns-in_err-sync-2-clause-stay g c = record {
 
 pub returns-in_err-sync-3-clause-stay : goal.returns-in_err-sync-3-clause-stay
 returns-in_err-sync-3-clause-stay g c = record {
-  journal0 = sync_leaves g.D.Disk c.args.devices.now.journal0 _ c.sync.result g.met.D.Disk.has_its_bytes c.sync.ensures.ok c.sync.ensures.err c.sync.ensures.clock;
-  journal1 = sync_leaves g.D.Disk c.args.devices.now.journal1 _ c.sync-2.result g.met.D.Disk.has_its_bytes c.sync-2.ensures.ok c.sync-2.ensures.err c.sync-2.ensures.clock;
-  slots = sync_leaves g.D.Disk c.args.devices.now.slots _ c.sync-3.result g.met.D.Disk.has_its_bytes c.sync-3.ensures.ok c.sync-3.ensures.err c.sync-3.ensures.clock;
+  journal0 = sync_leaves g.D.Disk c.args.devices.now.journal0 _ c.sync.result g.met.D.Disk.has_its_bytes c.sync.ensures.ok c.sync.ensures.err c.sync.ensures.clock c.sync.ensures.kept;
+  journal1 = sync_leaves g.D.Disk c.args.devices.now.journal1 _ c.sync-2.result g.met.D.Disk.has_its_bytes c.sync-2.ensures.ok c.sync-2.ensures.err c.sync-2.ensures.clock c.sync-2.ensures.kept;
+  slots = sync_leaves g.D.Disk c.args.devices.now.slots _ c.sync-3.result g.met.D.Disk.has_its_bytes c.sync-3.ensures.ok c.sync-3.ensures.err c.sync-3.ensures.clock c.sync-3.ensures.kept;
   root0 = same g.D.Disk c.args.devices.now.root0;
   root1 = same g.D.Disk c.args.devices.now.root1;
 }
 
 pub returns-in_err-sync-4-clause-stay : goal.returns-in_err-sync-4-clause-stay
 returns-in_err-sync-4-clause-stay g c = record {
-  journal0 = sync_leaves g.D.Disk c.args.devices.now.journal0 _ c.sync.result g.met.D.Disk.has_its_bytes c.sync.ensures.ok c.sync.ensures.err c.sync.ensures.clock;
-  journal1 = sync_leaves g.D.Disk c.args.devices.now.journal1 _ c.sync-2.result g.met.D.Disk.has_its_bytes c.sync-2.ensures.ok c.sync-2.ensures.err c.sync-2.ensures.clock;
-  slots = sync_leaves g.D.Disk c.args.devices.now.slots _ c.sync-3.result g.met.D.Disk.has_its_bytes c.sync-3.ensures.ok c.sync-3.ensures.err c.sync-3.ensures.clock;
-  root0 = sync_leaves g.D.Disk c.args.devices.now.root0 _ c.sync-4.result g.met.D.Disk.has_its_bytes c.sync-4.ensures.ok c.sync-4.ensures.err c.sync-4.ensures.clock;
+  journal0 = sync_leaves g.D.Disk c.args.devices.now.journal0 _ c.sync.result g.met.D.Disk.has_its_bytes c.sync.ensures.ok c.sync.ensures.err c.sync.ensures.clock c.sync.ensures.kept;
+  journal1 = sync_leaves g.D.Disk c.args.devices.now.journal1 _ c.sync-2.result g.met.D.Disk.has_its_bytes c.sync-2.ensures.ok c.sync-2.ensures.err c.sync-2.ensures.clock c.sync-2.ensures.kept;
+  slots = sync_leaves g.D.Disk c.args.devices.now.slots _ c.sync-3.result g.met.D.Disk.has_its_bytes c.sync-3.ensures.ok c.sync-3.ensures.err c.sync-3.ensures.clock c.sync-3.ensures.kept;
+  root0 = sync_leaves g.D.Disk c.args.devices.now.root0 _ c.sync-4.result g.met.D.Disk.has_its_bytes c.sync-4.ensures.ok c.sync-4.ensures.err c.sync-4.ensures.clock c.sync-4.ensures.kept;
   root1 = same g.D.Disk c.args.devices.now.root1;
 }
 
 pub returns-clause-stay : goal.returns-clause-stay
 returns-clause-stay g c = record {
-  journal0 = sync_leaves g.D.Disk c.args.devices.now.journal0 _ c.sync.result g.met.D.Disk.has_its_bytes c.sync.ensures.ok c.sync.ensures.err c.sync.ensures.clock;
-  journal1 = sync_leaves g.D.Disk c.args.devices.now.journal1 _ c.sync-2.result g.met.D.Disk.has_its_bytes c.sync-2.ensures.ok c.sync-2.ensures.err c.sync-2.ensures.clock;
-  slots = sync_leaves g.D.Disk c.args.devices.now.slots _ c.sync-3.result g.met.D.Disk.has_its_bytes c.sync-3.ensures.ok c.sync-3.ensures.err c.sync-3.ensures.clock;
-  root0 = sync_leaves g.D.Disk c.args.devices.now.root0 _ c.sync-4.result g.met.D.Disk.has_its_bytes c.sync-4.ensures.ok c.sync-4.ensures.err c.sync-4.ensures.clock;
-  root1 = sync_leaves g.D.Disk c.args.devices.now.root1 _ c.sync-5.result g.met.D.Disk.has_its_bytes c.sync-5.ensures.ok c.sync-5.ensures.err c.sync-5.ensures.clock;
+  journal0 = sync_leaves g.D.Disk c.args.devices.now.journal0 _ c.sync.result g.met.D.Disk.has_its_bytes c.sync.ensures.ok c.sync.ensures.err c.sync.ensures.clock c.sync.ensures.kept;
+  journal1 = sync_leaves g.D.Disk c.args.devices.now.journal1 _ c.sync-2.result g.met.D.Disk.has_its_bytes c.sync-2.ensures.ok c.sync-2.ensures.err c.sync-2.ensures.clock c.sync-2.ensures.kept;
+  slots = sync_leaves g.D.Disk c.args.devices.now.slots _ c.sync-3.result g.met.D.Disk.has_its_bytes c.sync-3.ensures.ok c.sync-3.ensures.err c.sync-3.ensures.clock c.sync-3.ensures.kept;
+  root0 = sync_leaves g.D.Disk c.args.devices.now.root0 _ c.sync-4.result g.met.D.Disk.has_its_bytes c.sync-4.ensures.ok c.sync-4.ensures.err c.sync-4.ensures.clock c.sync-4.ensures.kept;
+  root1 = sync_leaves g.D.Disk c.args.devices.now.root1 _ c.sync-5.result g.met.D.Disk.has_its_bytes c.sync-5.ensures.ok c.sync-5.ensures.err c.sync-5.ensures.clock c.sync-5.ensures.kept;
 }
 
 pub returns-in_err-sync-clause-bytes : goal.returns-in_err-sync-clause-bytes

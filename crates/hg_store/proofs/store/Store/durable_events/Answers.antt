@@ -4,6 +4,7 @@ use Rattle.hg_journals.specs.Journals.{HaveJournals, behind}
 use Rattle.hg_journals.specs.Pairs.{first_of, second_of}
 use Rattle.hg_journals.proofs.Imaging.{reads}
 use Rattle.hg_journals.proofs.Keeping.{once}
+use Rattle.hg_journals.proofs.Walking.{true_of}
 use Rattle.hg_store.specs.Shown.{ShownStore}
 use Rattle.hg_store.proofs.Reading.{images_left, images_same, read_on}
 use Rattle.hg_store.proofs.store.Store.durable_events.Goals as goal
@@ -28,7 +29,7 @@ invariant_of-self g c = record {
   sealed = c.self.invariant.sealed;
   stands = λ honest.
       let k = c.self.invariant.stands honest in
-      (k.0, read_on g.D.Disk _ k.0 k.1 c.collect.new.self c.collect.ensures.reads.first.state c.collect.ensures.reads.second.state (λ keeps. c.collect.ensures.keeps k.0.base k.0.events honest keeps));
+      (k.0, read_on g.D.Disk _ k.0 k.1 c.collect.new.self c.collect.ensures.reads.first.state c.collect.ensures.reads.second.state (λ keeps. c.collect.ensures.keeps k.0.base k.0.events (true_of g.D.Disk g.met.D.Disk.honest_reads honest c.collect.new.self) keeps));
 }
 
 pub returns-clause-events : goal.returns-clause-events
@@ -39,9 +40,9 @@ returns-clause-events g c base events honest is =
     let here = subst (λ (v : ShownStore g.row.D.Denot). HaveJournals base events (g.D.Disk.state v.devices.journal0).contents (g.D.Disk.state v.devices.journal1).contents) (sym c.self.view_is) is in
     let same = once (g.D.Disk.state (first_of i.journals)).contents (g.D.Disk.state (second_of i.journals)).contents base k.0.base events k.0.events here (reads g.D.Disk i.journals k.0.base k.0.events keeps) in
     subst (λ (n : ℕ). IfOk c.collect.result (λ found. found.items ≡ take c.args.max (behind n (c.args.from - 1) events))) (sym same.0)
-    (subst (λ (es : List Named). IfOk c.collect.result (λ found. found.items ≡ take c.args.max (behind k.0.base (c.args.from - 1) es))) (sym same.1) (c.collect.ensures.found k.0.base k.0.events honest keeps))
+    (subst (λ (es : List Named). IfOk c.collect.result (λ found. found.items ≡ take c.args.max (behind k.0.base (c.args.from - 1) es))) (sym same.1) (c.collect.ensures.found k.0.base k.0.events (true_of g.D.Disk g.met.D.Disk.honest_reads honest c.collect.new.self) keeps))
 
 pub returns-clause-whole : goal.returns-clause-whole
 returns-clause-whole g c honest =
     let k = c.self.invariant.stands honest in
-    c.collect.ensures.whole k.0.base k.0.events honest (k.1.works (search rules)).journals
+    c.collect.ensures.whole k.0.base k.0.events (true_of g.D.Disk g.met.D.Disk.honest_reads honest c.collect.new.self) (k.1.works (search rules)).journals
