@@ -7,7 +7,7 @@ use Rattle.hg_detect.specs.Shown as detect
 use Rattle.hg_cells.specs.Words.{after_refusal}
 use Rattle.hg_disk.specs.declared.disk.Disk as disk
 use Rattle.hg_pages.specs.declared.slot_file.TheConstants.{MOST_SLOTS}
-use Rattle.hg_pages.specs.Files.{is_broken, known}
+use Rattle.hg_pages.specs.Files.{disk_of, is_broken, known}
 use Rattle.hg_pages.specs.declared.slot_file.SlotFile.{SlotFile}
 use Rattle.hg_pool.specs.Maps as pools
 use Rattle.hg_pool.specs.Shown as pool
@@ -66,14 +66,14 @@ failures_after (Ok value) n = n
 failures_after (Err e) n = after_refusal e.0 n
 
 -- A refusal is told only if its cause holds.
-abbrev pub IsTrueCause : {D : Type 0} → disk.Ghosts D → Parts → Limits → SlotFile D → Refusal → Type 0
-IsTrueCause g root caps file refusal.FullSets = caps.sets < length root.sets
-IsTrueCause g root caps file refusal.FullSlots = ¬ All (λ p. p.slot < caps.slots) root.pages
-IsTrueCause g root caps file refusal.Damaged = IsTrue g.is_honest → ¬ HasPagesOf root (known g file)
-IsTrueCause g root caps file refusal.Broken = IsTrue (is_broken file)
-IsTrueCause g root caps file refusal.DeviceFault = Unit {0}
-IsTrueCause g root caps file refusal.OutOfMemory = Unit {0}
-IsTrueCause g root caps file _ = ⊥
+abbrev pub IsTrueCause : {D : Type 0} → disk.Ghosts D → Parts → Limits → (file after : SlotFile D) → Refusal → Type 0
+IsTrueCause g root caps file after refusal.FullSets = caps.sets < length root.sets
+IsTrueCause g root caps file after refusal.FullSlots = ¬ All (λ p. p.slot < caps.slots) root.pages
+IsTrueCause g root caps file after refusal.Damaged = IsTrue (g.reads_were_true (disk_of after)) → ¬ HasPagesOf root (known g file)
+IsTrueCause g root caps file after refusal.Broken = IsTrue (is_broken file)
+IsTrueCause g root caps file after refusal.DeviceFault = Unit {0}
+IsTrueCause g root caps file after refusal.OutOfMemory = Unit {0}
+IsTrueCause g root caps file after _ = ⊥
 
 -- The root has at most as many sets as the cap.
 abbrev pub FitsSets : Root → Limits → Type 0

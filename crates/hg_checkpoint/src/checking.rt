@@ -60,8 +60,8 @@ fn check_run<D: Disk>(
     requires some { 1 ≤ length pages.now }
     requires most { length pages.now ≤ MOST_RUN }
     requires run { LieSideBySide pages.now }
-    ensures stands { IsTrue D.is_honest → OnOk result (HasEachIn ⟦<D as Disk>⟧ file.old segments sets.now.sets pages.now) }
-    ensures damaged { IsTrue D.is_honest → LacksOne ⟦<D as Disk>⟧ file.old segments sets.now.sets pages.now result }
+    ensures stands { IsTrue (D.reads_were_true (disk_of file.new)) → OnOk result (HasEachIn ⟦<D as Disk>⟧ file.old segments sets.now.sets pages.now) }
+    ensures damaged { IsTrue (D.reads_were_true (disk_of file.new)) → LacksOne ⟦<D as Disk>⟧ file.old segments sets.now.sets pages.now result }
     ensures read { WasRead ⟦<D as Disk>⟧ 1 file.old file.new }
     ensures device { D.failures (disk_of file.new) ≡ failures_after result (D.failures (disk_of file.old)) }
     ensures memory { ¬ IsErrOf result SlotFault.OutOfMemory }
@@ -79,8 +79,8 @@ fn check_run<D: Disk>(
 /// one device call per page, and one for 21 pages that follow each other in slots side by side. It takes no memory.
 pub fn check_slots<D: Disk>(root: &Root, file: &mut SlotFile<D>) -> Result<(), SlotFault>
     requires { IsLawful (parts_of root.now) }
-    ensures stands { IsTrue D.is_honest → OnOk result (HasPagesOf (parts_of root.now) (known ⟦<D as Disk>⟧ file.old)) }
-    ensures damaged { IsTrue D.is_honest → LacksPages ⟦<D as Disk>⟧ file.old (parts_of root.now) result }
+    ensures stands { IsTrue (D.reads_were_true (disk_of file.new)) → OnOk result (HasPagesOf (parts_of root.now) (known ⟦<D as Disk>⟧ file.old)) }
+    ensures damaged { IsTrue (D.reads_were_true (disk_of file.new)) → LacksPages ⟦<D as Disk>⟧ file.old (parts_of root.now) result }
     ensures read { WasRead ⟦<D as Disk>⟧ (length root.now.pages.items) file.old file.new }
     ensures runs { WasReadByRuns ⟦<D as Disk>⟧ file.old file.new root.now.pages.items }
     ensures device { D.failures (disk_of file.new) ≡ failures_after result (D.failures (disk_of file.old)) }

@@ -26,8 +26,8 @@ use std::alloc::Global;
 // Reads each page that a root names.
 fn read_pages<D: Disk>(root: &Root, file: &mut SlotFile<D>) -> Result<(), Refusal>
     requires { IsLawful (parts_of root.now) }
-    ensures stands { IsTrue D.is_honest → OnOk result (HasPagesOf (parts_of root.now) (known ⟦<D as Disk>⟧ file.old)) }
-    ensures refusal { (caps : LimitsOf) → IfErr result (IsTrueCause ⟦<D as Disk>⟧ (parts_of root.now) caps file.old) }
+    ensures stands { IsTrue (D.reads_were_true (disk_of file.new)) → OnOk result (HasPagesOf (parts_of root.now) (known ⟦<D as Disk>⟧ file.old)) }
+    ensures refusal { (caps : LimitsOf) → IfErr result (IsTrueCause ⟦<D as Disk>⟧ (parts_of root.now) caps file.old file.new) }
     ensures read { WasRead ⟦<D as Disk>⟧ (length root.now.pages.items) file.old file.new }
     ensures device { D.failures (disk_of file.new) ≡ failed_after result (D.failures (disk_of file.old)) }
 {
@@ -47,8 +47,8 @@ fn checked_table<D: Disk>(
     ensures sets { caps.sets < length root.now.sets.sets → IfErr result (λ r. r ≡ Refusal.FullSets) }
     ensures slots { FitsSets root.now caps → NamesBeyond root.now caps → IfErr result (λ r. r ≡ Refusal.FullSlots) }
     ensures unread { ¬ FitsLimits (parts_of root.now) caps → file.new ≡ file.old }
-    ensures stands { IsTrue D.is_honest → OnOk result (HasPagesOf (parts_of root.now) (known ⟦<D as Disk>⟧ file.old)) }
-    ensures refusal { IfErr result (IsTrueCause ⟦<D as Disk>⟧ (parts_of root.now) caps file.old) }
+    ensures stands { IsTrue (D.reads_were_true (disk_of file.new)) → OnOk result (HasPagesOf (parts_of root.now) (known ⟦<D as Disk>⟧ file.old)) }
+    ensures refusal { IfErr result (IsTrueCause ⟦<D as Disk>⟧ (parts_of root.now) caps file.old file.new) }
     ensures read { WasRead ⟦<D as Disk>⟧ (length root.now.pages.items) file.old file.new }
     ensures device { D.failures (disk_of file.new) ≡ failed_after result (D.failures (disk_of file.old)) }
 {
@@ -62,7 +62,7 @@ fn checked_table<D: Disk>(
     Ok(table_of(alloc, &root.pages)?)
 }
 
-/// The detector of a root, over the pool of its pages, with no page in memory. Over an honest disk the slots have the pages
+/// The detector of a root, over the pool of its pages, with no page in memory. If the reads were true, the slots have the pages
 /// of a checkpoint with the root's parts, and the detector has the content of each such checkpoint. Each page is read once,
 /// with at most one device call a page (`check_slots`). A refusal hands the file back as it was.
 ///
@@ -78,15 +78,15 @@ pub fn restored<D: Disk>(
     requires whole { IsWhole root }
     requires caps { AreLimits caps }
     ensures shown { IfOk result (λ d. d ≡ detector_of root caps d.words.file) }
-    ensures content { IsTrue D.is_honest → RestoresContent ⟦<D as Disk>⟧ root file result }
-    ensures stands { IsTrue D.is_honest → OnOk result (HasPagesOf (parts_of root) (known ⟦<D as Disk>⟧ file)) }
+    ensures content { IsTrue (D.reads_were_true (disk_of (file_in result))) → RestoresContent ⟦<D as Disk>⟧ root file result }
+    ensures stands { IsTrue (D.reads_were_true (disk_of (file_in result))) → OnOk result (HasPagesOf (parts_of root) (known ⟦<D as Disk>⟧ file)) }
     ensures lawful { IfOk result (AtPresent ⟦<Pool<D> as Words>⟧.may_bring) }
     ensures faithful { IsTrue D.is_honest → IfOk result (AtPresent ⟦<Pool<D> as Words>⟧.is_faithful) }
     ensures fits { OnOk result (FitsLimits (parts_of root) caps) }
     ensures sets { caps.sets < length root.sets.sets → IfErr result (λ e. e.0 ≡ Refusal.FullSets) }
     ensures slots { FitsSets root caps → NamesBeyond root caps → IfErr result (λ e. e.0 ≡ Refusal.FullSlots) }
     ensures unread { ¬ FitsLimits (parts_of root) caps → file_in result ≡ file }
-    ensures refusal { IfErr result (λ e. IsTrueCause ⟦<D as Disk>⟧ (parts_of root) caps file e.0) }
+    ensures refusal { IfErr result (λ e. IsTrueCause ⟦<D as Disk>⟧ (parts_of root) caps file e.1 e.0) }
     ensures read { WasRead ⟦<D as Disk>⟧ (length root.pages.items) file (file_in result) }
     ensures device { D.failures (disk_of (file_in result)) ≡ failures_after result (D.failures (disk_of file)) }
 {

@@ -126,9 +126,9 @@ fn detector_of<D: Disk>(
     requires whole { IsWholeIn found }
     requires works { files.is_broken file ≡ false }
     ensures sets { IfOk result (λ d. d.sets ≡ table_at limits.sets (root_in found)) }
-    ensures content { IsTrue D.is_honest → StartsAt ⟦<D as Disk>⟧ (root_in found) file result }
-    ensures stands { IsTrue D.is_honest → OnOk result (HasCheckpointOf ⟦<D as Disk>⟧ (root_in found) file) }
-    ensures damaged { IsTrue D.is_honest → IfDamaged result (HasNoCheckpointOf ⟦<D as Disk>⟧ (root_in found) file) }
+    ensures content { IsTrue (D.reads_were_true (files.disk_of (file_in result))) → StartsAt ⟦<D as Disk>⟧ (root_in found) file result }
+    ensures stands { IsTrue (D.reads_were_true (files.disk_of (file_in result))) → OnOk result (HasCheckpointOf ⟦<D as Disk>⟧ (root_in found) file) }
+    ensures damaged { IsTrue (D.reads_were_true (files.disk_of (file_in result))) → IfDamaged result (HasNoCheckpointOf ⟦<D as Disk>⟧ (root_in found) file) }
     ensures lawful { IfOk result (AtPresent MayBring) }
     ensures faithful { IsTrue D.is_honest → IfOk result (AtPresent (IsFaithful ⟦<D as Disk>⟧)) }
     ensures ready { IsTrue D.is_honest → IfOk result (IsReady ⟦<D as Disk>⟧) }

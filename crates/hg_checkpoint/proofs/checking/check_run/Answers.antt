@@ -20,11 +20,11 @@ returns-in_err-read_run-clause-damaged g c honest told all =
 pub returns-then-not-has_each_page-clause-damaged : goal.returns-then-not-has_each_page-clause-damaged
 returns-then-not-has_each_page-clause-damaged g c honest told all =
     let pages = c.args.pages.now in
-    let each = each_here c.args.segments c.args.sets.now.sets c.read_run.new.run (known g.D.Disk c.args.file.now) pages (get_or pages 0 none) (slice_get-get_or pages 0 none c.requires.some) c.requires.run (c.in_ok-read_run.ensures.read (g.met.D.Disk.honest_reads honest c.read_run.new.self.disk)) all in
+    let each = each_here c.args.segments c.args.sets.now.sets c.read_run.new.run (known g.D.Disk c.args.file.now) pages (get_or pages 0 none) (slice_get-get_or pages 0 none c.requires.some) c.requires.run (c.in_ok-read_run.ensures.read honest) all in
     false≢true (sym c.if-not-has_each_page.true ∙ c.has_each_page.ensures.1 each)
 
 pub returns-clause-stands : goal.returns-clause-stands
 returns-clause-stands g c honest =
     let pages = c.args.pages.now in
-    each_there c.args.segments c.args.sets.now.sets c.read_run.new.run (known g.D.Disk c.args.file.now) pages (get_or pages 0 none) (slice_get-get_or pages 0 none c.requires.some) c.requires.run (c.in_ok-read_run.ensures.read (g.met.D.Disk.honest_reads honest c.read_run.new.self.disk))
+    each_there c.args.segments c.args.sets.now.sets c.read_run.new.run (known g.D.Disk c.args.file.now) pages (get_or pages 0 none) (slice_get-get_or pages 0 none c.requires.some) c.requires.run (c.in_ok-read_run.ensures.read honest)
     (c.has_each_page.ensures.0 c.if-not-has_each_page.false)

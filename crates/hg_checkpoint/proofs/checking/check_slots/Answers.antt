@@ -64,7 +64,7 @@ loop-at-preserved g c =
           let here : All P part =
           subst (λ (l : List ℕ). All (HasSomePage (length root.segments.items) root.sets.sets l) part) c.loop-at.invariant.read.known
           (subst (λ (n : ℕ). All (HasSomePage n root.sets.sets (known g.D.Disk c.loop-at.file)) part) segments (c.in_ok-check_run.ensures.stands honest)) in
-          part_more P pages at count (c.loop-at.invariant.stands honest) (subst (λ (l : List PageSlot). All P (take count l)) rest here);
+          part_more P pages at count (c.loop-at.invariant.stands (c.check_run.ensures.read.any_moment.kept honest)) (subst (λ (l : List PageSlot). All P (take count l)) rest here);
       read = at_most g.D.Disk (at + 1) (at + count) c.args.file.now c.check_run.new.file (omega (arith, run.some))
           (read_on g.D.Disk at 1 c.args.file.now c.loop-at.file c.check_run.new.file c.loop-at.invariant.read c.check_run.ensures.read);
       runs = λ side. by_more g.D.Disk c.args.file.now c.loop-at.file c.check_run.new.file pages at count side inside run (c.loop-at.invariant.runs side) c.check_run.ensures.read;

@@ -1,4 +1,4 @@
-use Rattle.std.proofs.Common.{◌∙◌, List, ℕ, ap, sym, subst}
+use Rattle.std.proofs.Common.{IsTrue, ◌∙◌, List, ℕ, ap, sym, subst}
 use Rattle.hg_detect.specs.Engine.{AtPresent}
 use Rattle.hg_detect.specs.Shown as detect
 use Rattle.hg_detect.specs.Shown.{content}
@@ -21,4 +21,8 @@ pub returns-in-Ok-over_pool-clause-faithful : goal.returns-in-Ok-over_pool-claus
 returns-in-Ok-over_pool-clause-faithful g c honest =
     let file = c.checked_table.new.file in
     subst (λ (d : detect.ShownDetector (pool.ShownPool g.row.D.Denot)). AtPresent (IsFaithful g.D.Disk) d) (sym c.in-Ok-over_pool.ensures.shown)
-    (is_faithful g.D.Disk c.args.root c.args.caps file honest (subst (λ (l : List ℕ). HasPagesOf (parts_of c.args.root) l) (sym c.checked_table.ensures.read.known) (c.in-Ok.ensures.stands honest)))
+    (is_faithful g.D.Disk c.args.root c.args.caps file honest (subst (λ (l : List ℕ). HasPagesOf (parts_of c.args.root) l) (sym c.checked_table.ensures.read.known) (c.in-Ok.ensures.stands (g.met.D.Disk.honest_reads honest file.disk))))
+
+pub returns-in-Ok-over_pool-clause-stands : goal.returns-in-Ok-over_pool-clause-stands
+returns-in-Ok-over_pool-clause-stands g c were =
+    c.in-Ok.ensures.stands (subst (λ (d : detect.ShownDetector (pool.ShownPool g.row.D.Denot)). IsTrue (g.D.Disk.reads_were_true d.words.file.disk)) c.in-Ok-over_pool.ensures.shown were)

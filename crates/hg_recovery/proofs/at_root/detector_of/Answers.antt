@@ -1,5 +1,5 @@
-use Rattle.std.proofs.Common.{◌≡◌, ◌∙◌, inl, inr, ℕ, false, Option, None, Some, Result, Ok, Err, refl, sym, ap, subst, rules}
-use Rattle.std.specs.Prelude.{IfOk, IfSome}
+use Rattle.std.proofs.Common.{IsTrue, ◌≡◌, ◌∙◌, inl, inr, ℕ, false, Option, None, Some, Result, Ok, Err, refl, sym, ap, subst, rules}
+use Rattle.std.specs.Prelude.{IfErr, IfOk, IfSome}
 use Rattle.hg_model.specs.declared.verdict.Refusal.{Refusal}
 use Rattle.hg_model.specs.declared.verdict.Refusal.TheVariants.{Damaged, OutOfMemory}
 use Rattle.hg_model.specs.declared.verdict.Refusal.TheVariants as refusal
@@ -17,7 +17,7 @@ use Rattle.hg_root.specs.Finding.{IsWholeIn, root_in}
 use Rattle.hg_root.specs.Parts.{Parts}
 use Rattle.hg_root.specs.Roots.{parts_of}
 use Rattle.hg_contents.specs.Images.{start_of}
-use Rattle.hg_checkpoint.specs.Restoring.{IsTrueCause, detector_of}
+use Rattle.hg_checkpoint.specs.Restoring.{IsTrueCause, detector_of, file_in}
 use Rattle.hg_checkpoint.specs.declared.limits.Limits.{Limits}
 use Rattle.hg_disk.specs.Moments.{AddsNoImage}
 use Rattle.hg_recovery.specs.Answers.{IsOfRecovery}
@@ -38,33 +38,39 @@ if_ok : {T E : Type 0} (P Q : T → Type 0) (result : Result T E) → ((value : 
 if_ok P Q (Ok value) from holds = from value holds
 if_ok P Q (Err error) from holds = tt
 
+-- what holds of a refusal if the reads of its file were true
+with_reads : {D : Type 0} (g : disk.Ghosts D) (P : Refusal × SlotFile D → Type 0) (result : Result (detect.ShownDetector (pool.ShownPool D)) (Refusal × SlotFile D)) → IfErr result (λ e. IsTrue (g.reads_were_true (disk_of e.1)) → P e)
+    → IsTrue (g.reads_were_true (disk_of (file_in result))) → IfErr result P
+with_reads g P (Ok d) is were = tt
+with_reads g P (Err e) is were = is were
+
 -- the causes of a restoring over a file that works
-of_cause : {D : Type 0} (g : disk.Ghosts D) (root : Parts) (caps : Limits) (file : SlotFile D) → is_broken file ≡ false → (r : Refusal) → IsTrueCause g root caps file r → IsOfRecovery r
-of_cause g root caps file works (refusal.Gap number) cause = absurd cause
-of_cause g root caps file works refusal.BadNumber cause = absurd cause
-of_cause g root caps file works refusal.BadLength cause = absurd cause
-of_cause g root caps file works refusal.AddressEnd cause = absurd cause
-of_cause g root caps file works refusal.NoThread cause = absurd cause
-of_cause g root caps file works refusal.ChildUsed cause = absurd cause
-of_cause g root caps file works refusal.SelfJoin cause = absurd cause
-of_cause g root caps file works refusal.ChildNotAlive cause = absurd cause
-of_cause g root caps file works refusal.ChildHoldsLocks cause = absurd cause
-of_cause g root caps file works refusal.Broken cause = absurd (cc (cause, works))
-of_cause g root caps file works refusal.Damaged cause = inl refl
-of_cause g root caps file works refusal.AlreadyHeld cause = absurd cause
-of_cause g root caps file works refusal.LockBusy cause = absurd cause
-of_cause g root caps file works refusal.NotHeld cause = absurd cause
-of_cause g root caps file works refusal.FullHeld cause = absurd cause
-of_cause g root caps file works refusal.FullSegments cause = absurd cause
-of_cause g root caps file works refusal.MessageUsed cause = absurd cause
-of_cause g root caps file works refusal.NotSent cause = absurd cause
-of_cause g root caps file works refusal.MessageTaken cause = absurd cause
-of_cause g root caps file works refusal.FullEvents cause = absurd cause
-of_cause g root caps file works refusal.FullPending cause = absurd cause
-of_cause g root caps file works refusal.FullSets cause = inr (inl refl)
-of_cause g root caps file works refusal.FullSlots cause = inr (inr (inl refl))
-of_cause g root caps file works refusal.DeviceFault cause = inr (inr (inr (inl refl)))
-of_cause g root caps file works refusal.OutOfMemory cause = inr (inr (inr (inr refl)))
+of_cause : {D : Type 0} (g : disk.Ghosts D) (root : Parts) (caps : Limits) (file after : SlotFile D) → is_broken file ≡ false → (r : Refusal) → IsTrueCause g root caps file after r → IsOfRecovery r
+of_cause g root caps file after works (refusal.Gap number) cause = absurd cause
+of_cause g root caps file after works refusal.BadNumber cause = absurd cause
+of_cause g root caps file after works refusal.BadLength cause = absurd cause
+of_cause g root caps file after works refusal.AddressEnd cause = absurd cause
+of_cause g root caps file after works refusal.NoThread cause = absurd cause
+of_cause g root caps file after works refusal.ChildUsed cause = absurd cause
+of_cause g root caps file after works refusal.SelfJoin cause = absurd cause
+of_cause g root caps file after works refusal.ChildNotAlive cause = absurd cause
+of_cause g root caps file after works refusal.ChildHoldsLocks cause = absurd cause
+of_cause g root caps file after works refusal.Broken cause = absurd (cc (cause, works))
+of_cause g root caps file after works refusal.Damaged cause = inl refl
+of_cause g root caps file after works refusal.AlreadyHeld cause = absurd cause
+of_cause g root caps file after works refusal.LockBusy cause = absurd cause
+of_cause g root caps file after works refusal.NotHeld cause = absurd cause
+of_cause g root caps file after works refusal.FullHeld cause = absurd cause
+of_cause g root caps file after works refusal.FullSegments cause = absurd cause
+of_cause g root caps file after works refusal.MessageUsed cause = absurd cause
+of_cause g root caps file after works refusal.NotSent cause = absurd cause
+of_cause g root caps file after works refusal.MessageTaken cause = absurd cause
+of_cause g root caps file after works refusal.FullEvents cause = absurd cause
+of_cause g root caps file after works refusal.FullPending cause = absurd cause
+of_cause g root caps file after works refusal.FullSets cause = inr (inl refl)
+of_cause g root caps file after works refusal.FullSlots cause = inr (inr (inl refl))
+of_cause g root caps file after works refusal.DeviceFault cause = inr (inr (inr (inl refl)))
+of_cause g root caps file after works refusal.OutOfMemory cause = inr (inr (inr (inr refl)))
 
 pub returns-in-Some-clause-sets : goal.returns-in-Some-clause-sets
 returns-in-Some-clause-sets g c =
@@ -78,7 +84,7 @@ returns-in-Some-clause-sets g c =
 pub returns-in-Some-clause-refusal : goal.returns-in-Some-clause-refusal
 returns-in-Some-clause-refusal g c =
     let root = parts_of c.in-Some.root in
-    if_err (λ e. IsTrueCause g.D.Disk root c.args.limits c.args.file e.0) (λ e. IsOfRecovery e.0) c.restored.result (λ e cause. of_cause g.D.Disk root c.args.limits c.args.file c.requires.works e.0 cause) c.restored.ensures.refusal
+    if_err (λ e. IsTrueCause g.D.Disk root c.args.limits c.args.file e.1 e.0) (λ e. IsOfRecovery e.0) c.restored.result (λ e cause. of_cause g.D.Disk root c.args.limits c.args.file e.1 c.requires.works e.0 cause) c.restored.ensures.refusal
 
 pub returns-in-Some-clause-content : goal.returns-in-Some-clause-content
 returns-in-Some-clause-content g c honest o is has =
@@ -95,29 +101,30 @@ pub returns-in-Some-clause-damaged : goal.returns-in-Some-clause-damaged
 returns-in-Some-clause-damaged g c honest =
     let root = parts_of c.in-Some.root in
     let slots = known g.D.Disk c.args.file in
-    if_err (λ e. IsTrueCause g.D.Disk root c.args.limits c.args.file e.0) (λ e. e.0 ≡ Damaged → (o : Option Checkpoint) → root_of o ≡ root_in c.args.found → ¬ IfSome o (HasPages slots)) c.restored.result
-    (λ e cause told o is has.
+    with_reads g.D.Disk (λ e. e.0 ≡ Damaged → (o : Option Checkpoint) → root_of o ≡ root_in c.args.found → ¬ IfSome o (HasPages slots)) c.restored.result
+    (if_err (λ e. IsTrueCause g.D.Disk root c.args.limits c.args.file e.1 e.0) (λ e. IsTrue (g.D.Disk.reads_were_true (disk_of e.1)) → e.0 ≡ Damaged → (o : Option Checkpoint) → root_of o ≡ root_in c.args.found → ¬ IfSome o (HasPages slots)) c.restored.result
+    (λ e cause were told o is has.
     let k = some_checkpoint o root (is ∙ ap root_in c.in-Some.is) in
-    let none = subst (λ (r : Refusal). IsTrueCause g.D.Disk root c.args.limits c.args.file r) told cause in
-    none honest (k.0, k.2, subst (λ (p : Option Checkpoint). IfSome p (HasPages slots)) k.1 has))
-    c.restored.ensures.refusal
+    let none = subst (λ (r : Refusal). IsTrueCause g.D.Disk root c.args.limits c.args.file e.1 r) told cause in
+    none were (k.0, k.2, subst (λ (p : Option Checkpoint). IfSome p (HasPages slots)) k.1 has))
+    c.restored.ensures.refusal) honest
 
 pub returns-in-Some-clause-full : goal.returns-in-Some-clause-full
 returns-in-Some-clause-full g c =
     let root = parts_of c.in-Some.root in
     let sets = c.args.limits.sets in
     let slots = c.args.limits.slots in
-    if_err (λ e. IsTrueCause g.D.Disk root c.args.limits c.args.file e.0) (λ e. IsTooFew sets slots (root_in c.args.found) e.0) c.restored.result
+    if_err (λ e. IsTrueCause g.D.Disk root c.args.limits c.args.file e.1 e.0) (λ e. IsTooFew sets slots (root_in c.args.found) e.0) c.restored.result
     (λ e cause. subst (λ (o : Option Parts). IsTooFew sets slots o e.0) (sym (ap root_in c.in-Some.is)) (
-      λ told. (subst (λ (r : Refusal). IsTrueCause g.D.Disk root c.args.limits c.args.file r) told cause),
-      λ told. (subst (λ (r : Refusal). IsTrueCause g.D.Disk root c.args.limits c.args.file r) told cause),
+      λ told. (subst (λ (r : Refusal). IsTrueCause g.D.Disk root c.args.limits c.args.file e.1 r) told cause),
+      λ told. (subst (λ (r : Refusal). IsTrueCause g.D.Disk root c.args.limits c.args.file e.1 r) told cause),
     ))
     c.restored.ensures.refusal
 
 pub returns-in-Some-clause-ready : goal.returns-in-Some-clause-ready
 returns-in-Some-clause-ready g c honest =
     let root = c.in-Some.root in
-    each_ready g.D.Disk root c.args.limits (known g.D.Disk c.args.file) (subst IsWholeIn c.in-Some.is c.requires.whole).1 c.restored.result (c.restored.ensures.stands honest) c.restored.ensures.shown (c.restored.ensures.content honest) (c.restored.ensures.faithful honest)
+    each_ready g.D.Disk root c.args.limits (known g.D.Disk c.args.file) (subst IsWholeIn c.in-Some.is c.requires.whole).1 c.restored.result (c.restored.ensures.stands (g.met.D.Disk.honest_reads honest (disk_of (file_in c.restored.result)))) c.restored.ensures.shown (c.restored.ensures.content (g.met.D.Disk.honest_reads honest (disk_of (file_in c.restored.result)))) (c.restored.ensures.faithful honest)
 
 pub returns-in-Ok-clause-ready : goal.returns-in-Ok-clause-ready
 returns-in-Ok-clause-ready g c honest = first_ready g.D.Disk c.in-Ok.detector c.args.limits.sets (search rules) (search rules) (search rules)

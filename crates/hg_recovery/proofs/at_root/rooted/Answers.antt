@@ -26,7 +26,7 @@ returns-in-Ok-detector_of-clause-rooted g c honest one other bytes first second 
     let found = root_in c.in-Ok.found in
     let roots = c.args.roots in
     let st = c.in-Ok.ensures.stands (true_of g.D.Disk g.met.D.Disk.honest_reads honest c.standing.new.roots) one other first second in
-    let made = c.in-Ok-detector_of.ensures.stands honest in
+    let made = c.in-Ok-detector_of.ensures.stands (g.met.D.Disk.honest_reads honest _) in
     let known : files.known g.D.Disk file ≡ bytes =
     ap (λ (b : Bool). cond b (g.D.Disk.state file.before.value).contents (g.D.Disk.state file.disk).contents) c.attach-file.ensures.works
     ∙ ap (λ d. (g.D.Disk.state d).contents) c.attach-file.ensures.disk ∙ settled_reads bytes _ at in
@@ -38,7 +38,7 @@ returns-in-Ok-detector_of-clause-rooted g c honest one other bytes first second 
     st.1 c.number_of-number.ensures
     (c.in-Ok-detector_of.ensures.state ∙ ap (λ d. g.D.Disk.state d) c.attach-file.ensures.disk ∙ at)
     (c.in-Ok-detector_of.ensures.names made.0 made.1)
-    (c.in-Ok-detector_of.ensures.content honest made.0 made.1 made.2)
+    (c.in-Ok-detector_of.ensures.content (g.met.D.Disk.honest_reads honest _) made.0 made.1 made.2)
     (c.in-Ok-detector_of.ensures.ready honest)
     c.in-Ok-detector_of.ensures.sets
 
@@ -47,7 +47,7 @@ returns-in-Err-detector_of-clause-damaged g c honest told cp is =
     let file = c.attach-file.result in
     let known : files.known g.D.Disk file ≡ (g.D.Disk.state c.args.slots).contents =
     ap (λ (b : Bool). cond b (g.D.Disk.state file.before.value).contents (g.D.Disk.state file.disk).contents) c.attach-file.ensures.works ∙ ap (λ d. (g.D.Disk.state d).contents) c.attach-file.ensures.disk in
-    c.in-Err-detector_of.ensures.damaged honest told cp (c.in-Ok.ensures.only (true_of g.D.Disk g.met.D.Disk.honest_reads honest c.standing.new.roots) (root_of cp) is.former is.newest) (subst (λ (l : List ℕ). IfSome cp (HasPages l)) (sym known) is.stand.0)
+    c.in-Err-detector_of.ensures.damaged (g.met.D.Disk.honest_reads honest _) told cp (c.in-Ok.ensures.only (true_of g.D.Disk g.met.D.Disk.honest_reads honest c.standing.new.roots) (root_of cp) is.former is.newest) (subst (λ (l : List ℕ). IfSome cp (HasPages l)) (sym known) is.stand.0)
 
 pub returns-in-Err-detector_of-clause-full : goal.returns-in-Err-detector_of-clause-full
 returns-in-Err-detector_of-clause-full g c honest =
