@@ -1,5 +1,5 @@
 -- The content of a detector over the words of a checkpoint.
-use Rattle.std.proofs.Common.{◌≡◌, ◌∙◌, ℕ, Bool, List, Option, Some, None, Result, Ok, Err, length, map, cond, false, sym, ap, subst}
+use Rattle.std.proofs.Common.{IsTrue, ◌≡◌, ◌∙◌, ℕ, Bool, List, Option, Some, None, Result, Ok, Err, length, map, cond, false, sym, ap, subst}
 use Rattle.std.specs.Prelude.{IfOk, IfSome, OnOk}
 use Rattle.hg_model.specs.Change.{empty_content}
 use Rattle.hg_model.specs.Contents.{Content}
@@ -25,7 +25,11 @@ use Rattle.hg_checkpoint.specs.Restoring.{detector_with}
 use Rattle.hg_contents.specs.Images.{cell_of, content_of, start_of}
 use Rattle.hg_contents.proofs.Contents.{one_start}
 use Rattle.hg_recovery.proofs.Detectors.{some_checkpoint}
-use Rattle.hg_saved.specs.Saved.{GivesContentOf, IsSaved, ReadsPages, pages_in}
+use Rattle.hg_root.specs.Pairs.{first_of, second_of}
+use Rattle.hg_root.specs.declared.pair.RootPair.{RootPair}
+use Rattle.hg_saved.specs.declared.saved.CheckpointDisks.{CheckpointDisks}
+use Rattle.hg_saved.specs.Disks.{ReadsWereTrue}
+use Rattle.hg_saved.specs.Saved.{BothWereTrue, GivesContentOf, IsSaved, ReadsPages, pages_in}
 use Rattle.hg_saved.specs.Words.{HasWordsOf}
 
 abbrev with_cells : Parts → (ℕ → List Cell) → Checkpoint
@@ -103,6 +107,18 @@ module _ {D : Type 0} (g : disk.Ghosts D) where
       (subst (λ (x : D). ReadsPages g (g.state a).contents (g.state x).contents q s) second
       (subst (λ (x : D). ReadsPages g (g.state a).contents (g.state d).contents x s) old
       (subst (λ (x : D). ReadsPages g (g.state a).contents (g.state d).contents p x) new reads)))
+
+  pub saved_alike : (c : Content) (a b d e p q : D) → a ≡ b → d ≡ e → p ≡ q → IsSaved (g.state a).contents (g.state d).contents (g.state p).contents c → IsSaved (g.state b).contents (g.state e).contents (g.state q).contents c
+  saved_alike c a b d e p q first second slots is =
+      subst (λ (x : D). IsSaved (g.state x).contents (g.state e).contents (g.state q).contents c) first
+      (subst (λ (x : D). IsSaved (g.state a).contents (g.state x).contents (g.state q).contents c) second
+      (subst (λ (x : D). IsSaved (g.state a).contents (g.state d).contents (g.state x).contents c) slots is))
+
+  pub true_alike : (disks : CheckpointDisks D) (roots : RootPair D) (file : SlotFile D) → disks.root0 ≡ first_of roots → disks.root1 ≡ second_of roots → disks.slots ≡ files.disk_of file → ReadsWereTrue g disks → BothWereTrue g roots file
+  true_alike disks roots file first second slots were = (
+    (subst (λ (x : D). IsTrue (g.reads_were_true x)) first were.0, subst (λ (x : D). IsTrue (g.reads_were_true x)) second were.1),
+    subst (λ (x : D). IsTrue (g.reads_were_true x)) slots were.2,
+  )
 
   pub stands_alike : (cp : Option Checkpoint) (a b d e p q : D) → a ≡ b → d ≡ e → p ≡ q → HasCheckpoint cp (g.state a).contents (g.state d).contents (g.state p).contents
       → HasCheckpoint cp (g.state b).contents (g.state e).contents (g.state q).contents

@@ -1,5 +1,5 @@
 -- What the three disks of checkpoints have, and how they are handed back.
-use Rattle.std.specs.Prelude.{◌≡◌, ◌+◌, ℕ, Option, Result, Ok, Err}
+use Rattle.std.specs.Prelude.{IsTrue, ◌≡◌, ◌+◌, ℕ, Option, Result, Ok, Err}
 use Rattle.hg_model.specs.Contents.{Content}
 use Rattle.hg_model.specs.declared.verdict.Refusal.{Refusal}
 use Rattle.hg_cells.specs.declared.paged.PagedWords.{PagedWords}
@@ -25,6 +25,11 @@ CountsAnswer (Ok r) old new = new ≡ old
 CountsAnswer (Err e) old new = CountedBy e.0 old new
 
 module _ {D : Type 0} (g : disk.Ghosts D) where
+  -- The reads of each disk so far were true.
+  abbrev pub ReadsWereTrue : CheckpointDisks D → Type 0
+  ReadsWereTrue disks =
+      IsTrue (g.reads_were_true disks.root0) × IsTrue (g.reads_were_true disks.root1) × IsTrue (g.reads_were_true disks.slots)
+
   -- The disks have this newest checkpoint, or none.
   abbrev pub HasNewest : Option Checkpoint → CheckpointDisks D → Type 0
   HasNewest checkpoint disks =

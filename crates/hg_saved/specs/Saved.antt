@@ -1,5 +1,5 @@
 -- The content that a checkpoint's detector has.
-use Rattle.std.specs.Prelude.{◌≡◌, ◌+◌, ℕ, List, Option, Some, None, Result, IfOk, IfSome, length}
+use Rattle.std.specs.Prelude.{IsTrue, ◌≡◌, ◌+◌, ℕ, List, Option, Some, None, Result, IfOk, IfSome, length}
 use Rattle.hg_model.specs.Contents.{Content}
 use Rattle.hg_model.specs.declared.verdict.Refusal.{Refusal}
 use Rattle.hg_cells.specs.declared.paged.PagedWords.{PagedWords}
@@ -48,6 +48,10 @@ module _ {D : Type 0} (g : disk.Ghosts D) where
   abbrev pub ReadsPages : (one other : List ℕ) → (old new : D) → Type 0
   ReadsPages one other old new =
       (root former : Option Parts) → IsNewest root former one other → CallsAtMost g (pages_in root) old new
+
+  -- The reads of the pair and of the file of slots so far were true.
+  abbrev pub BothWereTrue : RootPair D → SlotFile D → Type 0
+  BothWereTrue roots file = pairs.ReadsWereTrue g roots × IsTrue (g.reads_were_true (files.disk_of file))
 
   -- The root is the newest one of the pair, and the slots of the other one lie within the file.
   abbrev pub IsNewestWithin : RootPair D → SlotFile D → Option Root → Type 0

@@ -70,11 +70,11 @@ pub(crate) fn detector_at<D: Disk>(
 ) -> Result<MemoryDetector, Refusal>
     requires lawful { IsLawful (parts_of root) }
     requires whole { IsWhole root }
-    ensures content { IsTrue D.is_honest → GivesContentOf (parts_of root) (known ⟦<D as Disk>⟧ file.old) result }
+    ensures content { IsTrue (D.reads_were_true (disk_of file.new)) → GivesContentOf (parts_of root) (known ⟦<D as Disk>⟧ file.old) result }
     ensures whole { IfOk result IsWholeDetector }
     ensures limit { IfOk result (λ d. d.sets.limit ≡ MOST_SETS) }
-    ensures stands { IsTrue D.is_honest → OnOk result (HasPagesOf (parts_of root) (known ⟦<D as Disk>⟧ file.old)) }
-    ensures damaged { IsTrue D.is_honest →
+    ensures stands { IsTrue (D.reads_were_true (disk_of file.new)) → OnOk result (HasPagesOf (parts_of root) (known ⟦<D as Disk>⟧ file.old)) }
+    ensures damaged { IsTrue (D.reads_were_true (disk_of file.new)) →
         OnDamaged result (¬ HasPagesOf (parts_of root) (known ⟦<D as Disk>⟧ file.old)) }
     ensures read { WasRead ⟦<D as Disk>⟧ (length root.pages.items) file.old file.new }
     ensures device { CountsFailures result (D.failures (disk_of file.old)) (D.failures (disk_of file.new)) }

@@ -43,10 +43,10 @@ fn take_page<D: Disk>(
     words: &mut PagedWords,
 ) -> Result<(), Refusal>
     requires { named.page < MOST_PAGES }
-    ensures taken { IsTrue D.is_honest →
+    ensures taken { IsTrue (D.reads_were_true (disk_of file.new)) →
         OnOk result (TakesPage segments sets.now.sets (known ⟦<D as Disk>⟧ file.old) named words.old words.new) }
     ensures within { OnOk result (StaysWithin segments sets.now.sets words.old words.new) }
-    ensures damaged { IsTrue D.is_honest →
+    ensures damaged { IsTrue (D.reads_were_true (disk_of file.new)) →
         OnDamaged result (¬ HasSomePage segments sets.now.sets (known ⟦<D as Disk>⟧ file.old) named) }
     ensures read { WasRead ⟦<D as Disk>⟧ 1 file.old file.new }
     ensures device { CountsFailures result (D.failures (disk_of file.old)) (D.failures (disk_of file.new)) }
@@ -65,12 +65,12 @@ fn take_pages<D: Disk>(
     words: &mut PagedWords,
 ) -> Result<(), Refusal>
     requires { All (λ p. p.page < MOST_PAGES) pages.now }
-    ensures taken { IsTrue D.is_honest →
+    ensures taken { IsTrue (D.reads_were_true (disk_of file.new)) →
         OnOk result (TakesPages segments sets.now.sets (known ⟦<D as Disk>⟧ file.old) pages.now words.old words.new) }
     ensures within { OnOk result (StaysWithin segments sets.now.sets words.old words.new) }
-    ensures stands { IsTrue D.is_honest →
+    ensures stands { IsTrue (D.reads_were_true (disk_of file.new)) →
         OnOk result (HasEachIn ⟦<D as Disk>⟧ file.old segments sets.now.sets pages.now) }
-    ensures damaged { IsTrue D.is_honest →
+    ensures damaged { IsTrue (D.reads_were_true (disk_of file.new)) →
         OnDamaged result (¬ HasEachIn ⟦<D as Disk>⟧ file.old segments sets.now.sets pages.now) }
     ensures read { WasRead ⟦<D as Disk>⟧ (length pages.now) file.old file.new }
     ensures device { CountsFailures result (D.failures (disk_of file.old)) (D.failures (disk_of file.new)) }
@@ -90,11 +90,11 @@ pub(crate) fn words_of<D: Disk>(
     file: &mut SlotFile<D>,
 ) -> Result<PagedWords, Refusal>
     requires { IsLawful (parts_of root.now) }
-    ensures cells { IsTrue D.is_honest → IfOk result (HasWordsOf (parts_of root.now) (known ⟦<D as Disk>⟧ file.old)) }
+    ensures cells { IsTrue (D.reads_were_true (disk_of file.new)) → IfOk result (HasWordsOf (parts_of root.now) (known ⟦<D as Disk>⟧ file.old)) }
     ensures within { IfOk result (λ words.
         AreWithin words (length root.now.segments.items) (length root.now.sets.sets)) }
-    ensures stands { IsTrue D.is_honest → OnOk result (HasPagesOf (parts_of root.now) (known ⟦<D as Disk>⟧ file.old)) }
-    ensures damaged { IsTrue D.is_honest →
+    ensures stands { IsTrue (D.reads_were_true (disk_of file.new)) → OnOk result (HasPagesOf (parts_of root.now) (known ⟦<D as Disk>⟧ file.old)) }
+    ensures damaged { IsTrue (D.reads_were_true (disk_of file.new)) →
         OnDamaged result (¬ HasPagesOf (parts_of root.now) (known ⟦<D as Disk>⟧ file.old)) }
     ensures read { WasRead ⟦<D as Disk>⟧ (length root.now.pages.items) file.old file.new }
     ensures device { CountsFailures result (D.failures (disk_of file.old)) (D.failures (disk_of file.new)) }

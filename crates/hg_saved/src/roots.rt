@@ -4,7 +4,7 @@ ghost use Rattle.std.specs.Prelude.{◌↔◌, IfErr, IfOk, IfSome, IsTrue};
 ghost use Rattle.hg_pages.specs.Files as files;
 ghost use Rattle.hg_root.specs.Checkpoints.{LieWithin};
 ghost use Rattle.hg_root.specs.Finding.{AreWhole, HasNoNewest, IsNewestOf, IsOnlyOf, IsWholeIn, WasRead, root_in};
-ghost use Rattle.hg_root.specs.Pairs.{IsWorking, failures, first_of, second_of};
+ghost use Rattle.hg_root.specs.Pairs.{IsWorking, ReadsWereTrue, failures, first_of, second_of};
 ghost use Rattle.hg_recovery.specs.Answers.{CountsFailures, IsOfRoots, OnDamaged};
 ghost use Rattle.hg_recovery.specs.Rooting.{HasNoneIn, IsOnlyRoot};
 ghost use Rattle.hg_saved.specs.Saved.{IsNewestWithin};
@@ -19,10 +19,10 @@ use std::alloc::Global;
 /// The two roots of two files that can be used.
 fn newest<D: Disk>(alloc: Global, roots: &mut RootPair<D>) -> Result<Newest, Refusal>
     requires works { IsWorking roots.old }
-    ensures found { IsTrue D.is_honest → IfOk result (IsNewestOf ⟦<D as Disk>⟧ roots.old) }
-    ensures only { IsTrue D.is_honest → IfOk result (IsOnlyOf ⟦<D as Disk>⟧ roots.old) }
+    ensures found { ReadsWereTrue ⟦<D as Disk>⟧ roots.new → IfOk result (IsNewestOf ⟦<D as Disk>⟧ roots.old) }
+    ensures only { ReadsWereTrue ⟦<D as Disk>⟧ roots.new → IfOk result (IsOnlyOf ⟦<D as Disk>⟧ roots.old) }
     ensures whole { IfOk result AreWhole }
-    ensures damaged { IsTrue D.is_honest → OnDamaged result (HasNoNewest ⟦<D as Disk>⟧ roots.old) }
+    ensures damaged { ReadsWereTrue ⟦<D as Disk>⟧ roots.new → OnDamaged result (HasNoNewest ⟦<D as Disk>⟧ roots.old) }
     ensures refusal { IfErr result IsOfRoots }
     ensures first { WasRead ⟦<D as Disk>⟧ (first_of roots.old) (first_of roots.new) }
     ensures second { WasRead ⟦<D as Disk>⟧ (second_of roots.old) (second_of roots.new) }
@@ -54,10 +54,10 @@ pub(crate) fn newest_root<D: Disk>(
     file: &SlotFile<D>,
 ) -> Result<Option<Root>, Refusal>
     requires works { IsWorking roots.old }
-    ensures found { IsTrue D.is_honest → IfOk result (IsNewestWithin ⟦<D as Disk>⟧ roots.old file.now) }
-    ensures only { IsTrue D.is_honest → IfOk result (IsOnlyRoot ⟦<D as Disk>⟧ roots.old) }
+    ensures found { ReadsWereTrue ⟦<D as Disk>⟧ roots.new → IfOk result (IsNewestWithin ⟦<D as Disk>⟧ roots.old file.now) }
+    ensures only { ReadsWereTrue ⟦<D as Disk>⟧ roots.new → IfOk result (IsOnlyRoot ⟦<D as Disk>⟧ roots.old) }
     ensures whole { IfOk result IsWholeIn }
-    ensures damaged { IsTrue D.is_honest → OnDamaged result (HasNoneIn ⟦<D as Disk>⟧ roots.old file.now) }
+    ensures damaged { ReadsWereTrue ⟦<D as Disk>⟧ roots.new → OnDamaged result (HasNoneIn ⟦<D as Disk>⟧ roots.old file.now) }
     ensures refusal { IfErr result IsOfRoots }
     ensures first { WasRead ⟦<D as Disk>⟧ (first_of roots.old) (first_of roots.new) }
     ensures second { WasRead ⟦<D as Disk>⟧ (second_of roots.old) (second_of roots.new) }

@@ -1,14 +1,14 @@
 //! The content of the newest checkpoint of three disks.
 
-ghost use Rattle.std.specs.Prelude.{◌≡◌, IfErr, IfOk, IsTrue, false};
+ghost use Rattle.std.specs.Prelude.{◌≡◌, IfErr, IfOk, false};
 ghost use Rattle.hg_detect.specs.Memory.{IsWhole, content_of};
 ghost use Rattle.hg_pages.specs.Files as files;
 ghost use Rattle.hg_root.specs.Finding.{WasRead};
 ghost use Rattle.hg_root.specs.Pairs.{IsWorking, first_of, second_of};
 ghost use Rattle.hg_recovery.specs.Answers.{IsOfRoots, OnDamaged};
 ghost use Rattle.hg_recovery.specs.Rooting.{HasNoneIn};
-ghost use Rattle.hg_saved.specs.Disks.{CountsSaved, HasNoneSaved, IsSavedOn, ReadsEachPageOnce, disks_in};
-ghost use Rattle.hg_saved.specs.Saved.{CountsBoth, IsSavedIn, ReadsPagesOf, Stays};
+ghost use Rattle.hg_saved.specs.Disks.{CountsSaved, HasNoneSaved, IsSavedOn, ReadsEachPageOnce, ReadsWereTrue, disks_in};
+ghost use Rattle.hg_saved.specs.Saved.{BothWereTrue, CountsBoth, IsSavedIn, ReadsPagesOf, Stays};
 
 use crate::detectors::detector_at;
 use crate::roots::newest_root;
@@ -39,16 +39,16 @@ fn saved_in<D: Disk>(
 ) -> Result<MemoryDetector, Refusal>
     requires roots { IsWorking roots.old }
     requires file { files.is_broken file.old ≡ false }
-    ensures content { IsTrue D.is_honest →
+    ensures content { BothWereTrue ⟦<D as Disk>⟧ roots.new file.new →
         IfOk result (λ d. IsSavedIn ⟦<D as Disk>⟧ roots.old file.old (content_of d)) }
     ensures whole { IfOk result IsWhole }
     ensures limit { IfOk result (λ d. d.sets.limit ≡ MOST_SETS) }
-    ensures damaged { IsTrue D.is_honest → OnDamaged result (HasNoneIn ⟦<D as Disk>⟧ roots.old file.old) }
+    ensures damaged { BothWereTrue ⟦<D as Disk>⟧ roots.new file.new → OnDamaged result (HasNoneIn ⟦<D as Disk>⟧ roots.old file.old) }
     ensures refusal { IfErr result IsOfRoots }
     ensures slots { Stays ⟦<D as Disk>⟧ (files.disk_of file.old) (files.disk_of file.new) }
     ensures first { WasRead ⟦<D as Disk>⟧ (first_of roots.old) (first_of roots.new) }
     ensures second { WasRead ⟦<D as Disk>⟧ (second_of roots.old) (second_of roots.new) }
-    ensures calls { IsTrue D.is_honest → ReadsPagesOf ⟦<D as Disk>⟧ roots.old file.old file.new }
+    ensures calls { BothWereTrue ⟦<D as Disk>⟧ roots.new file.new → ReadsPagesOf ⟦<D as Disk>⟧ roots.old file.old file.new }
     ensures device { CountsBoth ⟦<D as Disk>⟧ roots.old file.old roots.new file.new result }
 {
     match newest_root(alloc, roots, file)? {
@@ -81,16 +81,16 @@ pub fn saved_detector<D: Disk>(
     alloc: Global,
     disks: CheckpointDisks<D>,
 ) -> Result<(MemoryDetector, CheckpointDisks<D>), (Refusal, CheckpointDisks<D>)>
-    ensures content { IsTrue D.is_honest → IfOk result (λ r. IsSavedOn ⟦<D as Disk>⟧ disks (content_of r.0)) }
+    ensures content { ReadsWereTrue ⟦<D as Disk>⟧ (disks_in result) → IfOk result (λ r. IsSavedOn ⟦<D as Disk>⟧ disks (content_of r.0)) }
     ensures whole { IfOk result (λ r. IsWhole r.0) }
     ensures limit { IfOk result (λ r. r.0.sets.limit ≡ MOST_SETS) }
-    ensures damaged { IsTrue D.is_honest →
+    ensures damaged { ReadsWereTrue ⟦<D as Disk>⟧ (disks_in result) →
         IfErr result (λ e. e.0 ≡ Refusal.Damaged → HasNoneSaved ⟦<D as Disk>⟧ disks) }
     ensures refusal { IfErr result (λ e. IsOfRoots e.0) }
     ensures slots { Stays ⟦<D as Disk>⟧ disks.slots (disks_in result).slots }
     ensures first { WasRead ⟦<D as Disk>⟧ disks.root0 (disks_in result).root0 }
     ensures second { WasRead ⟦<D as Disk>⟧ disks.root1 (disks_in result).root1 }
-    ensures calls { IsTrue D.is_honest → ReadsEachPageOnce ⟦<D as Disk>⟧ disks (disks_in result) }
+    ensures calls { ReadsWereTrue ⟦<D as Disk>⟧ (disks_in result) → ReadsEachPageOnce ⟦<D as Disk>⟧ disks (disks_in result) }
     ensures device { CountsSaved ⟦<D as Disk>⟧ disks result }
 {
     let CheckpointDisks {

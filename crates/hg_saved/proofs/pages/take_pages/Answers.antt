@@ -1,5 +1,5 @@
 use Rattle.std.proofs.Common.{◌≡◌, ◌+◌, ◌∙◌, Err, IsTrue, List, ℕ, get_or, length, sym, subst, arith}
-use Rattle.hg_pages.specs.Files.{known}
+use Rattle.hg_pages.specs.Files.{disk_of, known}
 use Rattle.hg_model.specs.declared.verdict.Refusal.TheVariants.{Damaged}
 use Rattle.hg_root.proofs.Each.{each_all, each_more}
 use Rattle.hg_root.specs.declared.parts.PageSlot.{PageSlot}
@@ -34,14 +34,14 @@ loop-page-preserved g c =
     let index = c.loop-page.page-index in
     let old = c.args.file.now in
     let before = c.loop-page.invariant in
-    let taken : IsTrue g.D.Disk.is_honest → TakesPage segments sets (known g.D.Disk old) (get_or pages index none) c.loop-page.words c.take_page.new.words =
+    let taken : IsTrue (g.D.Disk.reads_were_true (disk_of c.take_page.new.file)) → TakesPage segments sets (known g.D.Disk old) (get_or pages index none) c.loop-page.words c.take_page.new.words =
     λ honest. subst (λ (l : List ℕ). TakesPage segments sets l (get_or pages index none) c.loop-page.words c.take_page.new.words) before.read.known (c.in_ok-take_page.ensures.taken honest) in
     record {
-      taken = λ honest. one_more segments sets (known g.D.Disk old) pages index none c.args.words.now c.loop-page.words c.take_page.new.words c.loop-page-test.true (taken honest) (before.taken honest);
+      taken = λ honest. one_more segments sets (known g.D.Disk old) pages index none c.args.words.now c.loop-page.words c.take_page.new.words c.loop-page-test.true (taken honest) (before.taken (c.take_page.ensures.read.any_moment.kept honest));
       within = λ was. c.in_ok-take_page.ensures.within (before.within was);
       stands = λ honest.
           let one = taken honest in
-          each_more (HasSomePage segments sets (known g.D.Disk old)) pages index none c.loop-page-test.true (one.0, one.1) (before.stands honest);
+          each_more (HasSomePage segments sets (known g.D.Disk old)) pages index none c.loop-page-test.true (one.0, one.1) (before.stands (c.take_page.ensures.read.any_moment.kept honest));
       read = read_on g.D.Disk index 1 old c.loop-page.file c.take_page.new.file before.read c.take_page.ensures.read;
       failures = c.in_ok-take_page.ensures.device ∙ before.failures;
     }
