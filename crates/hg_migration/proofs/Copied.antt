@@ -3,6 +3,7 @@ use Rattle.std.proofs.Common.{◌≡◌, ◌≤◌, ◌+◌, ◌/◌, ℕ, zero,
 use Rattle.std.proofs.Math.Seq.{take-add}
 use Rattle.std.proofs.lemmas.List.{append-nil, drop-drop, nil_from_length}
 use Rattle.hg_disk.specs.declared.disk.Disk as disk
+use Rattle.hg_disk.specs.Moments.{WereTrueBefore}
 use Rattle.hg_disk.specs.State.{SameImages, after_write, overwritten}
 use Rattle.hg_disk.proofs.Images.{overwritten_at}
 use Rattle.hg_disk.proofs.Keeping.{keeps_image}
@@ -54,9 +55,9 @@ module _ {D : Type 0} (g : disk.Ghosts D) where
 
   -- a write at the end
   pub write_closed : {T E : Type 0} (old new : D) (at : ℕ) (bytes : List ℕ) (result : Result T E) → at ≡ length (g.state old).contents → OnOk result (g.state new ≡ after_write at bytes (g.state old))
-      → OnErr result (SameImages (after_write at bytes (g.state old)) (g.state new)) → g.past new ≡ (g.state old ∷ g.past old) → StaysClosed g old new
-  write_closed old new at bytes result is ok err clock gate closed kept =
-      write_shut g gate closed old new at bytes result (omega (arith, is, kept.held)) kept ok err clock
+      → OnErr result (SameImages (after_write at bytes (g.state old)) (g.state new)) → g.past new ≡ (g.state old ∷ g.past old) → WereTrueBefore g old new → StaysClosed g old new
+  write_closed old new at bytes result is ok err clock before gate closed kept =
+      write_shut g gate closed old new at bytes result (omega (arith, is, kept.held)) kept ok err clock before
 
   pub write_keeps : (old new : D) (at : ℕ) (bytes : List ℕ) → at ≡ length (g.state old).contents → g.state new ≡ after_write at bytes (g.state old) → KeepsGate g old new
   write_keeps old new at bytes is written gate kept = written_kept (g.state old) (g.state new) gate at bytes (omega (arith, is, kept.held)) kept written

@@ -2,7 +2,7 @@
 use Rattle.std.proofs.Common.{◌≡◌, ℕ, List, [], ◌∷◌, OnOk, OnErr, Result, get_or, ◌∙◌, subst, length, arith}
 use Rattle.hg_disk.specs.declared.disk.Disk as disk
 use Rattle.hg_disk.specs.Kept.{image_of_cut}
-use Rattle.hg_disk.specs.Moments.{LeavesOnly}
+use Rattle.hg_disk.specs.Moments.{LeavesOnly, WereTrueBefore}
 use Rattle.hg_disk.specs.State.{DiskState, IsImage, SameImages, after_cut, after_sync, settled}
 use Rattle.hg_disk.proofs.Moments.{at_end, joined, started, sync_leaves, weaker}
 use Rattle.hg_migration.specs.Emptying.{Empties, IsOpen}
@@ -49,13 +49,13 @@ module _ {D : Type 0} (g : disk.Ghosts D) where
 
   -- what each image has stays in a sync
   pub kept_in_sync : {T E : Type 0} (P : List ℕ → Type 0) (old mid new : D) (result : Result T E) → ((d : D) → IsImage (g.state d) (g.state d).contents) → LeavesOnly g old mid P → OnOk result (g.state new ≡ after_sync (g.state mid))
-      → OnErr result (SameImages (g.state mid) (g.state new)) → g.past new ≡ (g.state mid ∷ g.past mid) → LeavesOnly g old new P
-  kept_in_sync P old mid new result has_its_bytes first ok err clock =
-      joined g old mid new P first (weaker g mid new (IsImage (g.state mid)) P (sync_leaves g mid new result has_its_bytes ok err clock) (at_end g old mid P first))
+      → OnErr result (SameImages (g.state mid) (g.state new)) → g.past new ≡ (g.state mid ∷ g.past mid) → WereTrueBefore g mid new → LeavesOnly g old new P
+  kept_in_sync P old mid new result has_its_bytes first ok err clock before =
+      joined g old mid new P first (weaker g mid new (IsImage (g.state mid)) P (sync_leaves g mid new result has_its_bytes ok err clock before) (at_end g old mid P first))
 
   pub synced : {T E : Type 0} (old mid new : D) (result : Result T E) → ((d : D) → IsImage (g.state d) (g.state d).contents) → Empties g old mid → OnOk result (g.state new ≡ after_sync (g.state mid))
-      → OnErr result (SameImages (g.state mid) (g.state new)) → g.past new ≡ (g.state mid ∷ g.past mid) → Empties g old new
-  synced old mid new result has_its_bytes first ok err clock = record {
-    cut = kept_in_sync (IsImage (after_cut 0 (g.state old))) old mid new result has_its_bytes first.cut ok err clock;
-    none = λ is. kept_in_sync (IsImage (settled [])) old mid new result has_its_bytes (first.none is) ok err clock;
+      → OnErr result (SameImages (g.state mid) (g.state new)) → g.past new ≡ (g.state mid ∷ g.past mid) → WereTrueBefore g mid new → Empties g old new
+  synced old mid new result has_its_bytes first ok err clock before = record {
+    cut = kept_in_sync (IsImage (after_cut 0 (g.state old))) old mid new result has_its_bytes first.cut ok err clock before;
+    none = λ is. kept_in_sync (IsImage (settled [])) old mid new result has_its_bytes (first.none is) ok err clock before;
   }

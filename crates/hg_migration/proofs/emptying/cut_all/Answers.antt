@@ -6,7 +6,7 @@ use Rattle.hg_migration.proofs.emptying.cut_all.Goals as goal
 
 pub returns-then-len-gt0-clause-any_moment : goal.returns-then-len-gt0-clause-any_moment
 returns-then-len-gt0-clause-any_moment g c = record {
-  cut = cut_leaves g.D.Disk c.args.disk.now c.cut.new.self 0 c.cut.result c.cut.ensures.ok c.cut.ensures.err c.cut.ensures.clock;
+  cut = cut_leaves g.D.Disk c.args.disk.now c.cut.new.self 0 c.cut.result c.cut.ensures.ok c.cut.ensures.err c.cut.ensures.clock c.cut.ensures.kept;
   none = λ is. absurd (omega (arith, c.if-len-gt0.true, c.len.ensures.value, ap (λ (s : DiskState). length s.contents) is));
 }
 
