@@ -1,7 +1,8 @@
 //! A file that a command only looks at, as a disk of a store.
-ghost use Rattle.std.specs.Prelude.{◌≡◌, ◌↔◌, ◌+◌, ◌≤◌, ◌^◌, false, [], length, replicate, IsNone, OnOk, is_ok};
+ghost use Rattle.std.specs.Prelude.{◌≡◌, ◌↔◌, ◌+◌, ◌≤◌, ◌^◌, false, [], length, IsNone, IsTrue, OnOk, is_ok};
 ghost use Rattle.hg_disk.specs.History.{replay};
 ghost use Rattle.hg_disk.specs.Kept.{has_contents};
+ghost use Rattle.hg_disk.specs.System.{bytes_at_opening};
 ghost use Rattle.hg_tasks.specs.Looking.{calls_in, first_error, with_call};
 
 use crate::scratch::{Scratch, error_of, read_base};
@@ -10,7 +11,7 @@ use hg_trail::Trail;
 use std::io;
 use std::io::ErrorKind;
 
-/// A call of a disk, for contracts alone. One that failed has its error, and a write that took effect its bytes.
+/// A call of a disk, for contracts alone. One that failed has its error, and a write or a read that took effect its bytes.
 #[derive(Drop)]
 pub(crate) struct Event {
     pub call: Call,
@@ -21,17 +22,18 @@ pub(crate) struct Event {
 /// A file that is only read, as a disk. What is written to it goes to a scratch file, and is read from there; where there is none, each
 /// write fails. It is never cut.
 ///
-/// Nothing is promised about a file's bytes, so this disk is not honest.
+/// That a read gives what stands there is not promised: it is a premise, `reads_were_true`.
 #[derive(Drop)]
 pub struct LookDisk<'a> {
     base: FileDisk,
     scratch: Option<Scratch<'a>>,
     opened_len: u64,
+    opened: Trail<u8>,
     len: u64,
     events: Trail<Event>,
     error: Option<io::Error>,
     ghost keeps: { error ≡ first_error events },
-    ghost shows: { len ≡ length (replay (replicate opened_len 0) (calls_in events)).contents },
+    ghost shows: { len ≡ length (replay (bytes_at_opening opened_len opened) (calls_in events)).contents },
     ghost fits: { len ≤ 2 ^ 62 },
 }
 
@@ -78,19 +80,22 @@ fn only_read() -> io::Result<()>
 }
 
 impl<'a> LookDisk<'a> {
-    ghost use Rattle.hg_tasks.specs.Look.{look_failures, look_past, look_state};
+    ghost use Rattle.hg_tasks.specs.Look.{look_failures, look_past, look_reads_were_true, look_state};
 
     /// A disk over a file that is only read, with no calls yet. What is written goes to `scratch`, if there is one.
     pub(crate) fn new(base: FileDisk, scratch: Option<Scratch<'a>>) -> LookDisk<'a>
         ensures synced { (look_state result).since ≡ [] }
         ensures past { look_past result ≡ [] }
         ensures failures { look_failures result ≡ 0 }
+        ensures reads { IsTrue (look_reads_were_true result) }
     {
         let len = base.len();
+        let opened = found_in(&base);
         LookDisk {
             base,
             scratch,
             opened_len: len,
+            opened,
             len,
             events: Trail::new(),
             error: None,
@@ -104,6 +109,12 @@ impl<'a> LookDisk<'a> {
     {
         self.error
     }
+}
+
+// What stands in a file when it is looked at. No contract says what that is, so what is proved holds whatever it is.
+fn found_in(base: &FileDisk) -> Trail<u8> {
+    let _ = base;
+    Trail::new()
 }
 
 /// Fills a buffer with what was written last.
@@ -148,7 +159,10 @@ fn synced(base: &mut FileDisk) -> io::Result<()> {
 }
 
 impl<'a> Disk for LookDisk<'a> {
-    ghost use Rattle.hg_tasks.specs.Look.{look_failures, look_past, look_state};
+    ghost use Rattle.std.proofs.lemmas.Bool.{false≢true};
+    ghost use Rattle.hg_tasks.specs.Look.{look_failures, look_past, look_reads_were_true, look_state};
+
+    ghost reads_were_true = { look_reads_were_true };
 
     ghost is_honest = { false };
 
@@ -158,7 +172,9 @@ impl<'a> Disk for LookDisk<'a> {
 
     ghost failures = { look_failures };
 
-    ghost has_its_bytes = { λ d. has_contents (replicate d.opened_len 0) (calls_in d.events) };
+    ghost has_its_bytes = { λ d. has_contents (bytes_at_opening d.opened_len d.opened) (calls_in d.events) };
+
+    ghost honest_reads = { λ honest _. absurd (false≢true honest) };
 
     fn len(&self) -> u64 {
         self.len
@@ -170,7 +186,7 @@ impl<'a> Disk for LookDisk<'a> {
             &mut self.events,
             &mut self.error,
             Call::Read { at },
-            &[],
+            buf,
             answer,
         )
     }
