@@ -12,7 +12,7 @@ use hg_gate::OPEN;
 
 // Whether a file begins with an open gate.
 fn is_open<D: Disk>(disk: &mut D) -> Result<bool, DiskFault>
-    ensures open { IsTrue D.is_honest → IfOk result (TellsOpen (D.state disk.old).contents) }
+    ensures open { IsTrue (D.reads_were_true disk.new) → IfOk result (TellsOpen (D.state disk.old).contents) }
     ensures reads { WasRead ⟦<D as Disk>⟧ 1 disk.old disk.new }
     ensures failures { D.failures disk.new ≡ counted result (D.failures disk.old) }
 {

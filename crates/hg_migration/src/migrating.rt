@@ -55,9 +55,9 @@ pub struct NotMigrated<D> {
 
 // `Damaged` if the journal does not begin with its header.
 fn read_header<D: Disk>(journal: &mut D) -> Result<(), MigrationFault>
-    ensures begins { IsTrue D.is_honest → OnOk result (HasHeader ⟦<D as Disk>⟧ journal.old) }
+    ensures begins { IsTrue (D.reads_were_true journal.new) → OnOk result (HasHeader ⟦<D as Disk>⟧ journal.old) }
     ensures within { OnOk result (8 ≤ length (D.state journal.old).contents) }
-    ensures damaged { IsTrue D.is_honest → IsErrOf result MigrationFault.Damaged → ¬ HasHeader ⟦<D as Disk>⟧ journal.old }
+    ensures damaged { IsTrue (D.reads_were_true journal.new) → IsErrOf result MigrationFault.Damaged → ¬ HasHeader ⟦<D as Disk>⟧ journal.old }
     ensures fault { IfErr result IsDamagedOrDevice }
     ensures reads { WasRead ⟦<D as Disk>⟧ 1 journal.old journal.new }
     ensures device { D.failures journal.new ≡ failures_after result (D.failures journal.old) }
@@ -75,9 +75,9 @@ fn read_header<D: Disk>(journal: &mut D) -> Result<(), MigrationFault>
 
 // Makes the bytes of an old journal durable, and reads its header.
 fn prepare<D: Disk>(journal: &mut D) -> Result<(), MigrationFault>
-    ensures begins { IsTrue D.is_honest → OnOk result (HasHeader ⟦<D as Disk>⟧ journal.old) }
+    ensures begins { IsTrue (D.reads_were_true journal.new) → OnOk result (HasHeader ⟦<D as Disk>⟧ journal.old) }
     ensures within { OnOk result (8 ≤ length (D.state journal.new).contents) }
-    ensures damaged { IsTrue D.is_honest → IsErrOf result MigrationFault.Damaged → ¬ HasHeader ⟦<D as Disk>⟧ journal.old }
+    ensures damaged { IsTrue (D.reads_were_true journal.new) → IsErrOf result MigrationFault.Damaged → ¬ HasHeader ⟦<D as Disk>⟧ journal.old }
     ensures fault { IfErr result IsDamagedOrDevice }
     ensures bytes { ReadsSameOrFault ⟦<D as Disk>⟧ journal.old journal.new result }
     ensures any_moment { AddsNoImage ⟦<D as Disk>⟧ journal.old journal.new }

@@ -1,4 +1,4 @@
-use Rattle.std.proofs.Common.{inl, refl, subst, List, ℕ}
+use Rattle.std.proofs.Common.{inl, inr, refl, subst, List, ℕ}
 use Rattle.hg_disk.proofs.Staying.{then}
 use Rattle.hg_migration.specs.Building.{InTurn}
 use Rattle.hg_migration.proofs.Whole.{failed_beside}
@@ -26,3 +26,12 @@ returns-in_err-build-in-Ok-clause-any_moment g c =
 pub returns-in_ok-build-in-Ok-clause-any_moment : goal.returns-in_ok-build-in-Ok-clause-any_moment
 returns-in_ok-build-in-Ok-clause-any_moment g c =
     subst (λ (old : List ℕ). InTurn g.D.Disk old c.args.journal0.now c.build.new.journal0 c.args.journal1.now c.build.new.journal1) c.in-Ok.ensures.bytes c.build.ensures.any_moment
+
+pub returns-in_err-build-in-Ok-clause-begins : goal.returns-in_err-build-in-Ok-clause-begins
+returns-in_err-build-in-Ok-clause-begins g c honest = inr (c.in-Ok.ensures.begins (g.met.D.Disk.honest_reads honest c.prepare.new.journal))
+
+pub returns-in_ok-build-in-Ok-clause-begins : goal.returns-in_ok-build-in-Ok-clause-begins
+returns-in_ok-build-in-Ok-clause-begins g c honest = inr (c.in-Ok.ensures.begins (g.met.D.Disk.honest_reads honest c.prepare.new.journal))
+
+pub returns-in_ok-build-in-Ok-clause-header : goal.returns-in_ok-build-in-Ok-clause-header
+returns-in_ok-build-in-Ok-clause-header g c honest = c.in-Ok.ensures.begins (g.met.D.Disk.honest_reads honest c.prepare.new.journal)
