@@ -35,3 +35,6 @@ returns-in_ok-build-in-Ok-clause-begins g c honest = inr (c.in-Ok.ensures.begins
 
 pub returns-in_ok-build-in-Ok-clause-header : goal.returns-in_ok-build-in-Ok-clause-header
 returns-in_ok-build-in-Ok-clause-header g c honest = c.in-Ok.ensures.begins (g.met.D.Disk.honest_reads honest c.prepare.new.journal)
+
+pub returns-in-Err-clause-damaged : goal.returns-in-Err-clause-damaged
+returns-in-Err-clause-damaged g c honest told = c.in-Err.ensures.damaged (g.met.D.Disk.honest_reads honest c.prepare.new.journal) told
