@@ -67,8 +67,8 @@ module _ {D : Type 0} (g : disk.Ghosts D) where
   true_of law honest p = (law honest (older p), law honest (newer p))
 
   -- those of the file that is not the current one, where that was not called
-  pub older_true : (old new : JournalPair D g) → new.older ≡ old.older → ReadsWereTrue new → IsTrue (g.reads_were_true (older old))
-  older_true old new same were = subst (λ (j : Journal D g). IsTrue (g.reads_were_true (disk_of j))) same were.0
+  pub older_true : (j : Journal D g) (new : JournalPair D g) → new.older ≡ j → ReadsWereTrue new → IsTrue (g.reads_were_true (disk_of j))
+  older_true j new same were = subst (λ (k : Journal D g). IsTrue (g.reads_were_true (disk_of k))) same were.0
 
   -- a file that was only read keeps what it kept
   pub former_stays : (spare : Bool) (j k : Journal D g) (base : ℕ) (former : List Named) → g.state (disk_of k) ≡ g.state (disk_of j) → journal.is_broken k ≡ journal.is_broken j → journal.StaysKept j k

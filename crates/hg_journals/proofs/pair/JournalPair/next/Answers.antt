@@ -56,7 +56,7 @@ returns-in-Ok-None-clause-next g c base events seen honest k h =
     let was = was_older g.D.Disk c.args.reader.now.in_newer c.if-reader.false p c.args.reader.now.reader seen h in
     let front = base_front p.base in
     let all : KeepsBehind front c.next.new.self seen =
-    subst (λ (found : Option Named). MatchOption found (KeepsBehind front c.next.new.self seen) (λ named. IsAtBehind front c.next.new.self c.next.new.reader (seen ++ named ∷ []))) c.in-Ok-None.field-0-is (c.in-Ok-None.ensures.next_behind front seen (older_true g.D.Disk (record c.args.self.now { older = c.next.new.self }) c.next_behind.new.self c.next_behind.ensures.reads.other honest) was.1) in
+    subst (λ (found : Option Named). MatchOption found (KeepsBehind front c.next.new.self seen) (λ named. IsAtBehind front c.next.new.self c.next.new.reader (seen ++ named ∷ []))) c.in-Ok-None.field-0-is (c.in-Ok-None.ensures.next_behind front seen (older_true g.D.Disk c.next.new.self c.next_behind.new.self c.next_behind.ensures.reads.other honest) was.1) in
     c.next_behind.ensures.next base events seen honest
     (record {
       former = k.former;
@@ -77,7 +77,7 @@ returns-in-Ok-None-clause-stays g c base events seen honest k h =
     let was = was_older g.D.Disk c.args.reader.now.in_newer c.if-reader.false p c.args.reader.now.reader seen h in
     let front = base_front p.base in
     let all : KeepsBehind front c.next.new.self seen =
-    subst (λ (found : Option Named). MatchOption found (KeepsBehind front c.next.new.self seen) (λ named. IsAtBehind front c.next.new.self c.next.new.reader (seen ++ named ∷ []))) c.in-Ok-None.field-0-is (c.in-Ok-None.ensures.next_behind front seen (older_true g.D.Disk (record c.args.self.now { older = c.next.new.self }) c.next_behind.new.self c.next_behind.ensures.reads.other honest) was.1) in
+    subst (λ (found : Option Named). MatchOption found (KeepsBehind front c.next.new.self seen) (λ named. IsAtBehind front c.next.new.self c.next.new.reader (seen ++ named ∷ []))) c.in-Ok-None.field-0-is (c.in-Ok-None.ensures.next_behind front seen (older_true g.D.Disk c.next.new.self c.next_behind.new.self c.next_behind.ensures.reads.other honest) was.1) in
     c.next_behind.ensures.stays base events seen honest
     (record {
       former = k.former;

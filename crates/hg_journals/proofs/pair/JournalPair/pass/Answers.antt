@@ -84,10 +84,10 @@ returns-clause-passed g c base events seen honest k h =
     let was = was_older g.D.Disk c.args.reader.now.in_newer c.if-reader.false p c.args.reader.now.reader seen h in
     let front = base_front p.base in
     let former =
-    former_passed g.D.Disk p base events k c.pass.new.self c.pass.result c.pass.new.reader seen was.0 c.pass.ensures.disk.state (c.pass.ensures.passed_behind front seen (older_true g.D.Disk (record c.args.self.now { older = c.pass.new.self }) c.pass_behind.new.self c.pass_behind.ensures.reads.other honest) was.1) (c.pass.ensures.at_end_behind front seen (older_true g.D.Disk (record c.args.self.now { older = c.pass.new.self }) c.pass_behind.new.self c.pass_behind.ensures.reads.other honest) was.1)
-    (c.pass.ensures.again_behind front seen (older_true g.D.Disk (record c.args.self.now { older = c.pass.new.self }) c.pass_behind.new.self c.pass_behind.ensures.reads.other honest) was.1) in
+    former_passed g.D.Disk p base events k c.pass.new.self c.pass.result c.pass.new.reader seen was.0 c.pass.ensures.disk.state (c.pass.ensures.passed_behind front seen (older_true g.D.Disk c.pass.new.self c.pass_behind.new.self c.pass_behind.ensures.reads.other honest) was.1) (c.pass.ensures.at_end_behind front seen (older_true g.D.Disk c.pass.new.self c.pass_behind.new.self c.pass_behind.ensures.reads.other honest) was.1)
+    (c.pass.ensures.again_behind front seen (older_true g.D.Disk c.pass.new.self c.pass_behind.new.self c.pass_behind.ensures.reads.other honest) was.1) in
     let none : c.in-Ok.count ≡ 0 = omega (arith, c.if-count-gt0.false) in
-    let all = c.in-Ok.ensures.at_end_behind front seen (older_true g.D.Disk (record c.args.self.now { older = c.pass.new.self }) c.pass_behind.new.self c.pass_behind.ensures.reads.other honest) was.1 none in
+    let all = c.in-Ok.ensures.at_end_behind front seen (older_true g.D.Disk c.pass.new.self c.pass_behind.new.self c.pass_behind.ensures.reads.other honest) was.1 none in
     c.pass_behind.ensures.passed base events seen honest
     (record {
       former = k.former;
@@ -108,10 +108,10 @@ returns-clause-stays g c base events seen honest k h =
     let was = was_older g.D.Disk c.args.reader.now.in_newer c.if-reader.false p c.args.reader.now.reader seen h in
     let front = base_front p.base in
     let former =
-    former_passed g.D.Disk p base events k c.pass.new.self c.pass.result c.pass.new.reader seen was.0 c.pass.ensures.disk.state (c.pass.ensures.passed_behind front seen (older_true g.D.Disk (record c.args.self.now { older = c.pass.new.self }) c.pass_behind.new.self c.pass_behind.ensures.reads.other honest) was.1) (c.pass.ensures.at_end_behind front seen (older_true g.D.Disk (record c.args.self.now { older = c.pass.new.self }) c.pass_behind.new.self c.pass_behind.ensures.reads.other honest) was.1)
-    (c.pass.ensures.again_behind front seen (older_true g.D.Disk (record c.args.self.now { older = c.pass.new.self }) c.pass_behind.new.self c.pass_behind.ensures.reads.other honest) was.1) in
+    former_passed g.D.Disk p base events k c.pass.new.self c.pass.result c.pass.new.reader seen was.0 c.pass.ensures.disk.state (c.pass.ensures.passed_behind front seen (older_true g.D.Disk c.pass.new.self c.pass_behind.new.self c.pass_behind.ensures.reads.other honest) was.1) (c.pass.ensures.at_end_behind front seen (older_true g.D.Disk c.pass.new.self c.pass_behind.new.self c.pass_behind.ensures.reads.other honest) was.1)
+    (c.pass.ensures.again_behind front seen (older_true g.D.Disk c.pass.new.self c.pass_behind.new.self c.pass_behind.ensures.reads.other honest) was.1) in
     let none : c.in-Ok.count ≡ 0 = omega (arith, c.if-count-gt0.false) in
-    let all = c.in-Ok.ensures.at_end_behind front seen (older_true g.D.Disk (record c.args.self.now { older = c.pass.new.self }) c.pass_behind.new.self c.pass_behind.ensures.reads.other honest) was.1 none in
+    let all = c.in-Ok.ensures.at_end_behind front seen (older_true g.D.Disk c.pass.new.self c.pass_behind.new.self c.pass_behind.ensures.reads.other honest) was.1 none in
     c.pass_behind.ensures.stays base events seen honest
     (record {
       former = k.former;
@@ -132,10 +132,10 @@ returns-clause-keeps g c base events seen honest k h =
     let was = was_older g.D.Disk c.args.reader.now.in_newer c.if-reader.false p c.args.reader.now.reader seen h in
     let front = base_front p.base in
     let former =
-    former_passed g.D.Disk p base events k c.pass.new.self c.pass.result c.pass.new.reader seen was.0 c.pass.ensures.disk.state (c.pass.ensures.passed_behind front seen (older_true g.D.Disk (record c.args.self.now { older = c.pass.new.self }) c.pass_behind.new.self c.pass_behind.ensures.reads.other honest) was.1) (c.pass.ensures.at_end_behind front seen (older_true g.D.Disk (record c.args.self.now { older = c.pass.new.self }) c.pass_behind.new.self c.pass_behind.ensures.reads.other honest) was.1)
-    (c.pass.ensures.again_behind front seen (older_true g.D.Disk (record c.args.self.now { older = c.pass.new.self }) c.pass_behind.new.self c.pass_behind.ensures.reads.other honest) was.1) in
+    former_passed g.D.Disk p base events k c.pass.new.self c.pass.result c.pass.new.reader seen was.0 c.pass.ensures.disk.state (c.pass.ensures.passed_behind front seen (older_true g.D.Disk c.pass.new.self c.pass_behind.new.self c.pass_behind.ensures.reads.other honest) was.1) (c.pass.ensures.at_end_behind front seen (older_true g.D.Disk c.pass.new.self c.pass_behind.new.self c.pass_behind.ensures.reads.other honest) was.1)
+    (c.pass.ensures.again_behind front seen (older_true g.D.Disk c.pass.new.self c.pass_behind.new.self c.pass_behind.ensures.reads.other honest) was.1) in
     let none : c.in-Ok.count ≡ 0 = omega (arith, c.if-count-gt0.false) in
-    let all = c.in-Ok.ensures.at_end_behind front seen (older_true g.D.Disk (record c.args.self.now { older = c.pass.new.self }) c.pass_behind.new.self c.pass_behind.ensures.reads.other honest) was.1 none in
+    let all = c.in-Ok.ensures.at_end_behind front seen (older_true g.D.Disk c.pass.new.self c.pass_behind.new.self c.pass_behind.ensures.reads.other honest) was.1 none in
     c.pass_behind.ensures.keeps base events seen honest
     (record {
       former = k.former;
