@@ -8,6 +8,7 @@ pub mod checkpoints;
 pub mod create;
 pub mod devices;
 pub mod drive;
+pub mod made;
 mod offer;
 pub mod page_number;
 pub mod paging;
