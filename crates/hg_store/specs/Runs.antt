@@ -1,5 +1,5 @@
 -- Runs of steps with their answers.
-use Rattle.std.specs.Prelude.{◌≡◌, ◌++◌, ◌||◌, ℕ, List, [], ◌∷◌, length, Bool, true, false, Some, Ok, Err, Result, Vec, cond, map}
+use Rattle.std.specs.Prelude.{◌≡◌, ◌++◌, ◌||◌, ℕ, List, [], ◌∷◌, length, Bool, true, false, IsTrue, Some, Ok, Err, Result, Vec, cond, map}
 use Rattle.hg_model.specs.declared.verdict.Refusal.{Refusal}
 use Rattle.hg_model.specs.declared.verdict.Refusal.TheVariants.{Broken, DeviceFault}
 use Rattle.hg_model.specs.Contents.{Content}

@@ -9,7 +9,7 @@ pub mod create;
 pub mod devices;
 pub mod drive;
 pub mod made;
-mod offer;
+pub mod offer;
 pub mod page_number;
 pub mod paging;
 pub mod queries;
