@@ -37,8 +37,8 @@ module _ {D : Type 0} (g : disk.Ghosts D) where
 
   prepared_still : (p : RootPair D) (root former : Option Parts) (rest : List ℕ) → IsPrepared g p root rest → EachPair g p p (IsNewest root former)
   prepared_still p root former rest prepared = record {
-    older_goes = ([], refl);
-    newer_goes = ([], refl);
+    older_goes = ([], refl, λ were. were);
+    newer_goes = ([], refl, λ were. were);
     each = λ one other may_one may_other.
         let is_one = at_rest (older p) (prepared.gate ∷ rest) one prepared.older_rests.durable (still g (older p) one may_one) in
         let is_other = at_rest (newer p) prepared.newer_file other prepared.newer_rests.durable (still g (newer p) other may_other) in
