@@ -1,5 +1,5 @@
 -- What is held after one event more, and by what a checkpoint has.
-use Rattle.std.proofs.Common.{◌≡◌, ◌⊎◌, inl, inr, ℕ, ◌+◌, Bool, true, false, not, ◌&&◌, ◌==◌, List, [], ◌∷◌, ◌++◌, Some, refl, sym, ◌∙◌, ap, subst}
+use Rattle.std.proofs.Common.{◌≡◌, inl, inr, ℕ, ◌+◌, Bool, true, false, not, ◌&&◌, ◌==◌, List, [], ◌∷◌, ◌++◌, Some, refl, sym, ◌∙◌, ap, subst}
 use Rattle.std.specs.Prelude.{slice_get}
 use Rattle.std.specs.List.{AllByRecursion, filter}
 use Rattle.std.proofs.lemmas.Bool.{cases_Bool, cond-true, cond-false, eq-eqb, and_from, true≢false}
@@ -10,7 +10,7 @@ use Rattle.hg_model.specs.declared.thread.ThreadState.{ThreadState}
 use Rattle.hg_verbose.specs.declared.holds.Fact.{Fact}
 use Rattle.hg_verbose.specs.declared.holds.Fact.TheVariants.{Accepted, Saved}
 use Rattle.hg_verbose.specs.declared.holds.Hold.{Hold}
-use Rattle.hg_verbose.specs.Holds.{BeginsHold, Followed, IsHeld, IsHeldNow, IsSavedIn, IsSavedOf, LetsGo, Saves, SavesOf, SavesOfEach, SavesOnly, accepted, saved_hold}
+use Rattle.hg_verbose.specs.Holds.{BeginsHold, Followed, IsHeld, IsSavedIn, IsSavedOf, LetsGo, Saves, SavesOf, SavesOfEach, SavesOnly, accepted, saved_hold}
 
 -- an event that lets nothing go
 pub still_held : (e : Event) (gone : ℕ) (earlier : List Fact) (holds : List Hold) → ((h : Hold) → LetsGo e h → ⊥) → AllByRecursion (IsHeld gone earlier) holds → AllByRecursion (IsHeld gone (Accepted e ∷ earlier)) holds
