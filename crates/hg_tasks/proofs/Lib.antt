@@ -1,2 +1,3 @@
 mod Errors
+mod Refused
 mod Spelled
