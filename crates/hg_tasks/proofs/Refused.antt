@@ -37,8 +37,8 @@ module _ {D : Type 0} (g : disk.Ghosts D) where
   pub not_emptied : (former : FormerStore D) (journal0 journal1 : D) (fault : MigrationFault) → IsNotEmptyOrDevice fault → (IsTrue g.is_honest → fault ≡ NotEmpty → EitherIsOpen g former.journal0 former.journal1)
       → (fault ≡ NotEmpty → OnlyReads g former.journal0 journal0 former.journal1 journal1) → g.failures journal0 + g.failures journal1 ≡ after_fault fault (g.failures former.journal0 + g.failures former.journal1)
       → IsNotMigrated g former (record { old = former.old; journal0 = journal0; journal1 = journal1 }) fault
-  not_emptied former journal0 journal1 fault is open reads failed = record {
-    open = open;
+  not_emptied former journal0 journal1 fault is opened reads failed = record {
+    is_open = opened;
     unchanged = λ told. (refl, reads told);
     not_open = λ honest told. is_other fault is told;
     no_header = λ honest told. is_other fault is told;
@@ -59,7 +59,7 @@ module _ {D : Type 0} (g : disk.Ghosts D) where
       → failures_of g left.old.journal left.journal0 left.journal1 ≡ after_fault fault (failures_of g former.old.journal between0 between1)
       → IsNotMigrated g former left fault
   not_made former between0 between1 left fault emptied not_open none not_empty damaged stays reads others failed = record {
-    open = λ honest told. absurd (not_empty told (were_empty between0 between1 emptied));
+    is_open = λ honest told. absurd (not_empty told (were_empty between0 between1 emptied));
     unchanged = λ told. absurd (not_empty told (were_empty between0 between1 emptied));
     not_open = λ honest told. not_open honest;
     no_header = damaged;

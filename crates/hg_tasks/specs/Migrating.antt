@@ -50,7 +50,7 @@ module _ {D : Type 0} (g : disk.Ghosts D) where
   -- only read. `Damaged`: of honest devices neither is, and the old journal does not have its header. `DeviceFault` exactly if a call failed.
   -- Want of memory may be told at any time. The former store stays in each case.
   pub record IsNotMigrated (former left : FormerStore D) (fault : MigrationFault) : Type 0 where
-    pub open : IsTrue g.is_honest → fault ≡ NotEmpty → EitherIsOpen g former.journal0 former.journal1
+    pub is_open : IsTrue g.is_honest → fault ≡ NotEmpty → EitherIsOpen g former.journal0 former.journal1
     pub unchanged : fault ≡ NotEmpty → (left.old ≡ former.old) × OnlyReads g former.journal0 left.journal0 former.journal1 left.journal1
     pub not_open : IsTrue g.is_honest → fault ≡ Damaged → AreNotOpen g former.journal0 former.journal1
     pub no_header : IsTrue g.is_honest → fault ≡ Damaged → ¬ HasHeader g former.old.journal

@@ -82,7 +82,7 @@ module _ (P : Hold → Type 0) (first : Followed) where
       record {
         gone = more.gone ∙ saves.gone;
         accepted_is = more.accepted_is ∙ saves.accepted_is;
-        each = λ h held. elim (more.each h held) [ | inl before ↦ saves.each h before | inr one ↦ inr (within h one) ];
+        each = λ h held. elim (more.each h held) [ inl before ↦ saves.each h before | inr one ↦ inr (within h one) ];
       }
 
 -- one hold more of a thread
