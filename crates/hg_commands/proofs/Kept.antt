@@ -18,18 +18,22 @@ use Rattle.hg_images.specs.Images.{HasContent, Image}
 use Rattle.hg_contents.proofs.Following.{followed_append, followed_events}
 use Rattle.hg_store.specs.declared.devices.Devices.{Devices}
 use Rattle.hg_store.specs.declared.steps.StepFault.{StepFault}
-use Rattle.hg_store.specs.Images.{EachImage, Recovers, read_of}
+use Rattle.hg_store.specs.Images.{EachImage, KeepsFiles, Recovers, read_of}
 use Rattle.hg_store.specs.Limits.{Limits, limits_of}
 use Rattle.hg_store.specs.Recovering.{HasTable}
 use Rattle.hg_store.specs.Shown.{KeepsLimits, ShownStore, live, saved}
 use Rattle.hg_store.specs.Steps.{CommitDone, ContentOffered, OfferDone, RetireDone, if_accepted}
-use Rattle.hg_store.specs.Store.{Backs, IsFresh}
+use Rattle.hg_store.specs.Store.{Backs, IsFresh, IsIdle}
 use Rattle.hg_store.proofs.Moments.{all_still}
 use Rattle.hg_store.proofs.Refusals.{limits_stay}
 use Rattle.hg_commands.specs.FeedRunning.{LiesOnWayOfAny, WasStepped}
 use Rattle.hg_commands.specs.Feeding.{ack_text}
-use Rattle.hg_commands.specs.Instants.{HasLimits, Instant, instant, instant_of}
-use Rattle.hg_commands.specs.Keeping.{AcksAtMost, EachAckIsKept, HasAtLeast, IsKept, IsKeptAlong, IsKeptBetween, KeepsOn}
+use Rattle.hg_store.specs.declared.steps.Step.{Step}
+use Rattle.hg_store.specs.declared.steps.StepResult.{StepResult}
+use Rattle.hg_store.specs.Runs.{MadeAlong, Makes, made}
+use Rattle.hg_store.proofs.Driven.{made_drive, made_steps, made_then}
+use Rattle.hg_commands.specs.Instants.{HasLimits, Instant, instant, instant_behind, instant_of, made_at}
+use Rattle.hg_commands.specs.Keeping.{AcksAtMost, EachAckIsKept, HasAtLeast, IsKept, IsKeptAlong, IsKeptBetween, KeepsOn, WasDriven}
 use Rattle.hg_streams.specs.Printed.{IsPrintedNow, WereGiven}
 use Rattle.hg_commands.proofs.Given.{given_none, given_printed, given_weaker, grows}
 
@@ -80,9 +84,6 @@ module _ {D : Type 0} (g : disk.Ghosts D) where
     along_more first last more events start mids mid leads h.1,
   )
 
-  pub keeps_then : (a b c : ShownStore D) (x y z : List WriteCall) (k l m : List (Instant D)) → KeepsOn g a x k b y l → KeepsOn g b y l c z m → KeepsOn g a x k c z m
-  keeps_then a b c x y z k l m first second = λ start limits content honest h. second start limits content honest (first start limits content honest h)
-
   -- what is kept while the devices are not called, and nothing is written but what acknowledges durable events
   standing : (s : ShownStore D) (calls : List WriteCall) (start newest : Instant D) (first : Content) (front : List Named) → Backs g s → followed first front ≡ Some (saved g s) → WereGiven (AcksAtMost (saved g s).events) start.calls calls
       → s.devices ≡ newest.devices → (later : List WriteCall) × (calls ≡ later ++ newest.calls) → IsKeptBetween g first (live g s) start.calls newest (instant s.devices calls)
@@ -104,9 +105,9 @@ module _ {D : Type 0} (g : disk.Ghosts D) where
   pub keeps_step : (s m : ShownStore D) (calls : List WriteCall) (moments later : List (Instant D)) (moment : Instant D) (doubt : Bool) (events more : List Named)
       → (IsTrue g.is_honest → followed (live g s) events ≡ Some (live g m)) → (IsTrue g.is_honest → Backs g s → followed (saved g s) more ≡ Some (saved g m))
       → (IsTrue g.is_honest → Backs g s → EachImage g s.devices m.devices (Stands (saved g s) (live g s) doubt)) → (IsTrue g.is_honest → Backs g m)
-      → KeepsLimits s m → later ≡ moment ∷ moments → moment ≡ instant_of m calls → KeepsOn g s calls moments m calls later
-  keeps_step s m calls moments later moment doubt events more leads durable images backs same pushed is = λ start limits first honest h.
-      let mid = instant_of m calls in
+      → KeepsLimits s m → later ≡ moment ∷ moments → (step : Step) (answer : StepResult) → moment ≡ instant_behind (made s step answer) m calls → Makes g s m step answer → KeepsOn g s calls moments m calls later
+  keeps_step s m calls moments later moment doubt events more leads durable images backs same pushed step answer is makes = (λ start limits first honest h.
+      let mid = instant_behind (made s step answer) m calls in
       let has : limits_of m ≡ limits = limits_stay s m same ∙ h.has in
       let front = h.front ++ more in
       let next = durable honest h.backs in
@@ -139,49 +140,49 @@ module _ {D : Type 0} (g : disk.Ghosts D) where
         has = has;
         had = subst (λ (t : List (Instant D)). All (HasLimits limits) t) (sym (pushed ∙ ap (λ x. x ∷ moments) is))
             (All-cons (HasLimits limits) mid moments (ap (λ (l : Limits). Some l) has) h.had);
-      }
+      }, λ first along. made_then g first s m (made_at moments) (made_at later) step answer (ap made_at (pushed ∙ ap (λ x. x ∷ moments) is)) makes backs along)
 
   -- an event was offered
   pub keeps_offer : (s m : ShownStore D) (calls : List WriteCall) (moments later : List (Instant D)) (moment : Instant D) (n : Named) (r : Result Answer Refusal) → OfferDone g s m n r → (IsTrue g.is_honest → ContentOffered g s m n r)
-      → (IsTrue g.is_honest → EachImage g s.devices m.devices (Stands (saved g s) (live g s) s.in_doubt)) → (IsTrue g.is_honest → Backs g m) → KeepsLimits s m → later ≡ moment ∷ moments → moment ≡ instant_of m calls
+      → (IsTrue g.is_honest → EachImage g s.devices m.devices (Stands (saved g s) (live g s) s.in_doubt)) → (IsTrue g.is_honest → Backs g m) → KeepsLimits s m → later ≡ moment ∷ moments → (step : Step) (answer : StepResult) → moment ≡ instant_behind (made s step answer) m calls → Makes g s m step answer
       → KeepsOn g s calls moments m calls later
-  keeps_offer s m calls moments later moment n r done content images backs limits pushed is =
+  keeps_offer s m calls moments later moment n r done content images backs limits pushed step answer is makes =
       keeps_step s m calls moments later moment s.in_doubt (if_accepted n r) [] (λ honest. (content honest).leads)
-      (λ honest b. ap (λ (d : detect.ShownDetector (pool.ShownPool D)). Some (detect.content (pools.live g) d)) (sym done.same.committed)) (λ honest b. images honest) backs limits pushed is
+      (λ honest b. ap (λ (d : detect.ShownDetector (pool.ShownPool D)). Some (detect.content (pools.live g) d)) (sym done.same.committed)) (λ honest b. images honest) backs limits pushed step answer is makes
 
   same_detector : (s m : ShownStore D) → m.detector ≡ s.detector → KeepsLimits s m
   same_detector s m same = (ap (λ (d : detect.ShownDetector (pool.ShownPool D)). d.words.most_frames) same, ap (λ (d : detect.ShownDetector (pool.ShownPool D)). d.words.slots) same)
 
   -- a commit was made, or failed
   pub keeps_commit : (s m : ShownStore D) (calls : List WriteCall) (moments later : List (Instant D)) (moment : Instant D) (r : Result ℕ Refusal) → CommitDone g s m r
-      → (IsTrue g.is_honest → EachImage g s.devices m.devices (Stands (saved g s) (live g s) true)) → (IsTrue g.is_honest → Backs g m) → later ≡ moment ∷ moments → moment ≡ instant_of m calls
+      → (IsTrue g.is_honest → EachImage g s.devices m.devices (Stands (saved g s) (live g s) true)) → (IsTrue g.is_honest → Backs g m) → later ≡ moment ∷ moments → (step : Step) (answer : StepResult) → moment ≡ instant_behind (made s step answer) m calls → Makes g s m step answer
       → KeepsOn g s calls moments m calls later
-  keeps_commit s m calls moments later moment (Ok count) done images backs pushed is =
+  keeps_commit s m calls moments later moment (Ok count) done images backs pushed step answer is makes =
       keeps_step s m calls moments later moment true [] s.pending (λ honest. ap (λ (d : detect.ShownDetector (pool.ShownPool D)). Some (detect.content (pools.live g) d)) (sym done.detector))
-      (λ honest b. b.live ∙ ap (λ (d : detect.ShownDetector (pool.ShownPool D)). Some (detect.content (pools.live g) d)) (sym done.answer.committed)) (λ honest b. images honest) backs (same_detector s m done.detector) pushed is
-  keeps_commit s m calls moments later moment (Err refusal) done images backs pushed is =
+      (λ honest b. b.live ∙ ap (λ (d : detect.ShownDetector (pool.ShownPool D)). Some (detect.content (pools.live g) d)) (sym done.answer.committed)) (λ honest b. images honest) backs (same_detector s m done.detector) pushed step answer is makes
+  keeps_commit s m calls moments later moment (Err refusal) done images backs pushed step answer is makes =
       keeps_step s m calls moments later moment true [] [] (λ honest. ap (λ (d : detect.ShownDetector (pool.ShownPool D)). Some (detect.content (pools.live g) d)) (sym done.detector))
-      (λ honest b. ap (λ (d : detect.ShownDetector (pool.ShownPool D)). Some (detect.content (pools.live g) d)) (sym done.answer.committed)) (λ honest b. images honest) backs (same_detector s m done.detector) pushed is
+      (λ honest b. ap (λ (d : detect.ShownDetector (pool.ShownPool D)). Some (detect.content (pools.live g) d)) (sym done.answer.committed)) (λ honest b. images honest) backs (same_detector s m done.detector) pushed step answer is makes
 
   -- a step of a checkpoint was made, or refused
   pub keeps_stepped : {T : Type 0} (s m : ShownStore D) (calls : List WriteCall) (moments later : List (Instant D)) (moment : Instant D) (result : Result T StepFault) → WasStepped g s m result
-      → (IsTrue g.is_honest → Backs g m) → later ≡ moment ∷ moments → moment ≡ instant_of m calls → KeepsOn g s calls moments m calls later
-  keeps_stepped s m calls moments later moment result stepped backs pushed is =
+      → (IsTrue g.is_honest → Backs g m) → later ≡ moment ∷ moments → (step : Step) (answer : StepResult) → moment ≡ instant_behind (made s step answer) m calls → Makes g s m step answer → KeepsOn g s calls moments m calls later
+  keeps_stepped s m calls moments later moment result stepped backs pushed step answer is makes =
       keeps_step s m calls moments later moment s.in_doubt [] [] (λ honest. ap (λ (c : Content). Some c) (sym (stepped.live honest)))
-      (λ honest b. ap (λ (d : detect.ShownDetector (pool.ShownPool D)). Some (detect.content (pools.live g) d)) (sym stepped.committed)) (λ honest b. stepped.images honest b) backs stepped.limits pushed is
+      (λ honest b. ap (λ (d : detect.ShownDetector (pool.ShownPool D)). Some (detect.content (pools.live g) d)) (sym stepped.committed)) (λ honest b. stepped.images honest b) backs stepped.limits pushed step answer is makes
 
   -- events that the newest root counts were given up, or not
   pub keeps_retired : (s m : ShownStore D) (calls : List WriteCall) (moments later : List (Instant D)) (moment : Instant D) (result : Result Bool Refusal) → RetireDone s m result
-      → (IsTrue g.is_honest → EachImage g s.devices m.devices (Stands (saved g s) (live g s) s.in_doubt)) → (IsTrue g.is_honest → Backs g m) → KeepsLimits s m → later ≡ moment ∷ moments → moment ≡ instant_of m calls
+      → (IsTrue g.is_honest → EachImage g s.devices m.devices (Stands (saved g s) (live g s) s.in_doubt)) → (IsTrue g.is_honest → Backs g m) → KeepsLimits s m → later ≡ moment ∷ moments → (step : Step) (answer : StepResult) → moment ≡ instant_behind (made s step answer) m calls → Makes g s m step answer
       → KeepsOn g s calls moments m calls later
-  keeps_retired s m calls moments later moment result done images backs limits pushed is =
+  keeps_retired s m calls moments later moment result done images backs limits pushed step answer is makes =
       keeps_step s m calls moments later moment s.in_doubt [] [] (λ honest. ap (λ (d : detect.ShownDetector (pool.ShownPool D)). Some (detect.content (pools.live g) d)) (sym done.same.detector))
-      (λ honest b. ap (λ (d : detect.ShownDetector (pool.ShownPool D)). Some (detect.content (pools.live g) d)) (sym done.same.committed)) (λ honest b. images honest) backs limits pushed is
+      (λ honest b. ap (λ (d : detect.ShownDetector (pool.ShownPool D)). Some (detect.content (pools.live g) d)) (sym done.same.committed)) (λ honest b. images honest) backs limits pushed step answer is makes
 
   -- a text was printed that acknowledges no more than what is durable
   pub keeps_printed : (s : ShownStore D) (calls new : List WriteCall) (moments : List (Instant D)) (text : List ℕ) → IsPrintedNow calls new text
       → (IsTrue g.is_honest → Backs g s → AcksAtMost (saved g s).events text) → KeepsOn g s calls moments s new moments
-  keeps_printed s calls new moments text printed says = λ start limits first honest h.
+  keeps_printed s calls new moments text printed says = (λ start limits first honest h.
       let acked = given_printed (AcksAtMost (saved g s).events) start.calls calls new text printed (says honest h.backs) (inr (inl refl)) h.acked in
       record {
         backs = h.backs;
@@ -198,7 +199,7 @@ module _ {D : Type 0} (g : disk.Ghosts D) where
         );
         has = h.has;
         had = h.had;
-      }
+      }, λ first along. along)
 
   -- what a commit counts is durable
   pub ack_enough : (s m : ShownStore D) (count : ℕ) → CommitDone g s m (Ok count) → AcksAtMost (saved g m).events (ack_text count)
@@ -237,7 +238,7 @@ module _ {D : Type 0} (g : disk.Ghosts D) where
       → (began : (c : Content) × HasContent (read_of g old) c × IsFresh g s c) → IsTrue g.is_honest → KeepsOn g s before opening u after moments → opening ≡ moment ∷ none → moment ≡ instant_of s before → none ≡ []
       → IsKept g (instant old before) (limits_of s) began.0 moments u after
   fed_on old s u before after none opening moments moment recovery began honest keeps pushed first empty =
-      keeps (instant old before) (limits_of s) began.0 honest (subst (λ t. IsKept g (instant old before) (limits_of s) began.0 t s before) (sym (opening_is s before none opening moment pushed first empty)) (fresh_kept old s began.0 before recovery began.2))
+      keeps.0 (instant old before) (limits_of s) began.0 honest (subst (λ t. IsKept g (instant old before) (limits_of s) began.0 t s before) (sym (opening_is s before none opening moment pushed first empty)) (fresh_kept old s began.0 before recovery began.2))
 
   pub fed_is_kept : (source : ℕ) (reads now : List ReadCall) (old new : Devices D) (s u : ShownStore D) (before after : List WriteCall) (none opening moments : List (Instant D)) (moment : Instant D) → Recovers g old s.devices
       → ((c : Content) × HasContent (read_of g old) c × IsFresh g s c) → HasTable MOST_SETS (read_of g old) (live g s) s.detector.sets → LiesOnWayOfAny source s.detector.sets (live g s) reads now (live g u)
@@ -277,3 +278,21 @@ module _ {D : Type 0} (g : disk.Ghosts D) where
     way = λ some. absurd (some none);
     along = subst (λ (t : List (Instant D)). IsKeptAlong g empty_content empty_content (instant old calls) t (instant new calls)) (sym none) (images, refl);
   }
+
+  -- a store was opened and fed: its moments tell of a run
+  pub fed_is_driven : (old new : Devices D) (s u : ShownStore D) (before after : List WriteCall) (none opening moments : List (Instant D)) (moment : Instant D) → IsIdle s → KeepsFiles g old s.devices
+      → (IsTrue g.is_honest → (c : Content) × HasContent (read_of g old) c × IsFresh g s c) → KeepsOn g s before opening u after moments → opening ≡ moment ∷ none → moment ≡ instant_of s before → none ≡ [] → new ≡ u.devices
+      → WasDriven g old before moments new after
+  fed_is_driven old new s u before after none opening moments moment idle kept began keeps pushed first empty is =
+      let along : MadeAlong g s (made_at moments) u =
+      keeps.1 s (subst (λ (t : List (Instant D)). MadeAlong g s (made_at t) s) (sym (opening_is s before none opening moment pushed first empty)) refl) in
+      inr (record {
+        opened = s;
+        idle = idle;
+        kept = kept;
+        fresh = began;
+        closed = u;
+        left = is;
+        each = made_steps g s u (made_at moments) along;
+        run = λ honest. made_drive g honest s u (made_at moments) (began honest).2.backs along;
+      })

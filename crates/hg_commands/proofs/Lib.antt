@@ -15,3 +15,4 @@ mod Summing
 mod Causes
 mod Openings
 mod Ruling
+mod Making

@@ -9,15 +9,17 @@ use Rattle.hg_model.specs.Contents.{Content}
 use Rattle.hg_model.specs.Change.{followed}
 use Rattle.hg_disk.specs.declared.disk.Disk as disk
 use Rattle.hg_images.specs.Images.{HasContent, Image}
-use Rattle.hg_store.specs.Images.{EachImage, IsOn, Recovers, read_of}
+use Rattle.hg_store.specs.declared.devices.Devices.{Devices}
+use Rattle.hg_store.specs.Images.{EachImage, IsOn, KeepsFiles, Recovers, read_of}
 use Rattle.hg_store.specs.Limits.{Limits, limits_of}
 use Rattle.hg_store.specs.Recovering.{HasTable}
 use Rattle.hg_store.specs.Shown.{ShownStore, live, saved}
-use Rattle.hg_store.specs.Store.{Backs}
+use Rattle.hg_store.specs.Runs.{DriveDone, MadeAlong, StepsDone, steps_of, told_to}
+use Rattle.hg_store.specs.Store.{Backs, IsFresh, IsIdle}
 use Rattle.hg_reading.specs.declared.ending.Ending.{Ending}
 use Rattle.hg_commands.specs.Feeding.{ack_text, feed_end_text}
 use Rattle.hg_commands.specs.FeedRunning.{LiesOnWayOfAny}
-use Rattle.hg_commands.specs.Instants.{HasLimits, Instant, instant}
+use Rattle.hg_commands.specs.Instants.{HasLimits, Instant, instant, made_at}
 use Rattle.hg_streams.specs.Printed.{WereGiven}
 use Rattle.hg_streams.specs.Texts.{number_text}
 
@@ -77,7 +79,28 @@ module _ {D : Type 0} (g : disk.Ghosts D) where
     pub has : limits_of s ≡ limits
     pub had : All (HasLimits limits) moments
 
-  -- What is kept stays kept from one moment to another.
+  -- The steps that the moments tell of go on from one store to another, whatever the devices are.
+  abbrev pub StepsOn : ShownStore D → List (Instant D) → ShownStore D → List (Instant D) → Type 0
+  StepsOn old earlier new later = (first : ShownStore D) → MadeAlong g first (made_at earlier) old → MadeAlong g first (made_at later) new
+
+  -- From one moment to another what is kept stays kept, and the steps go on.
   abbrev pub KeepsOn : ShownStore D → List WriteCall → List (Instant D) → ShownStore D → List WriteCall → List (Instant D) → Type 0
   KeepsOn old before earlier new after later =
-      (start : Instant D) (limits : Limits) (first : Content) → IsTrue g.is_honest → IsKept start limits first earlier old before → IsKept start limits first later new after
+      ((start : Instant D) (limits : Limits) (first : Content) → IsTrue g.is_honest → IsKept start limits first earlier old before → IsKept start limits first later new after)
+      × StepsOn old earlier new later
+
+  -- A store was opened on some devices, and the steps that the moments tell of were made on it, one after another, and no other one
+  -- that changes it. Then it was closed. Over honest devices these steps are a run from the content that the devices had.
+  pub record IsDriven (old : Devices D) (moments : List (Instant D)) (new : Devices D) : Type 0 where
+    pub opened : ShownStore D
+    pub idle : IsIdle opened
+    pub kept : KeepsFiles g old opened.devices
+    pub fresh : IsTrue g.is_honest → (c : Content) × HasContent (read_of g old) c × IsFresh g opened c
+    pub closed : ShownStore D
+    pub left : new ≡ closed.devices
+    pub each : StepsDone g opened closed (steps_of (made_at moments)) (told_to (made_at moments))
+    pub run : IsTrue g.is_honest → DriveDone g opened closed (steps_of (made_at moments)) (told_to (made_at moments))
+
+  -- No store was opened, and nothing was written; or one was, and was driven.
+  abbrev pub WasDriven : Devices D → List WriteCall → List (Instant D) → Devices D → List WriteCall → Type 0
+  WasDriven old before moments new after = ((moments ≡ []) × (after ≡ before) × KeepsFiles g old new) ⊎ IsDriven old moments new

@@ -16,7 +16,7 @@ use Rattle.hg_streams.specs.declared.streams.Streams.{Streams}
 use Rattle.hg_commands.specs.Feeding.{ack_text, checkpoint_text, feed_end_text}
 use Rattle.hg_commands.specs.FeedRunning.{BreaksAt, EndsAt, EndsByFeedFault, FeedDone, Feeds, HasFront, LiesOnWayOfAny, Passes, Place, StaysOnWay, WasCheckpointed, WasCounted, WasFed, WentWell, WroteFeedFront, WroteFrontFrom, place}
 use Rattle.hg_commands.specs.Instants.{Instant, instant}
-use Rattle.hg_commands.specs.Keeping.{EachAckIsKept, KeepsOn}
+use Rattle.hg_commands.specs.Keeping.{EachAckIsKept, KeepsOn, WasDriven}
 use Rattle.hg_streams.specs.Printed.{IsPrintedNow}
 use Rattle.hg_commands.specs.Storing.{failed_calls}
 use Rattle.hg_commands.specs.FeedFaults.{FeedFails, HasFeedCause}
@@ -148,6 +148,10 @@ module _ {D R V : Type 0} (g : disk.Ghosts D) where
   AcksAreKept settings devices first now before after result =
       IsTrue g.is_honest → EachAckIsKept g settings.source first.calls now.calls (instant devices before.calls) result.2 (instant result.1 after.calls)
 
+  -- What its moments tell of is a run of the store's steps.
+  abbrev pub MomentsAreRun : Devices D → Outgoing V → Outgoing V → Recovered D → Type 0
+  MomentsAreRun devices before after result = WasDriven g devices before.calls result.2 result.1 after.calls
+
 -- For the command, which reads one stream, prints to a second and tells its faults on a third.
 module _ {D R W V : Type 0} (g : disk.Ghosts D) where
   -- The status is 3; or it tells how the feeding ended, and the feeding did what it is to do.
@@ -170,3 +174,7 @@ module _ {D R W V : Type 0} (g : disk.Ghosts D) where
       IsTrue g.is_honest
       → EachAckIsKept g settings.source before.input.calls after.input.calls
       (instant old before.output.calls) outcome.moments (instant outcome.devices after.output.calls)
+
+  -- The moments of a feeding that came to this outcome tell of a run of the store's steps.
+  abbrev pub TellsRun : Devices D → Streams R W V → Outcome D W → Streams R W V → Type 0
+  TellsRun old before outcome after = WasDriven g old before.output.calls outcome.moments outcome.devices after.output.calls

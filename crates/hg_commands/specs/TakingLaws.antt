@@ -11,7 +11,9 @@ use Rattle.hg_commands.specs.Feeding.{FeedsTo}
 use Rattle.hg_store.specs.Shown.{ShownStore}
 use Rattle.hg_commands.specs.FeedRunning.{LeadsOn, Place, WentWell, content_at, table_at}
 use Rattle.hg_commands.specs.GivingUp.{IsQuiet}
+use Rattle.hg_streams.specs.declared.call.WriteCall.{WriteCall}
 use Rattle.hg_commands.specs.Instants.{Instant}
+use Rattle.hg_commands.specs.Keeping.{KeepsOn}
 use Rattle.hg_commands.specs.Taking.{FeedsLines, IsFine, IsReadyAt, MayTake}
 
 -- where nothing but the current journal is called
@@ -38,6 +40,13 @@ passed : IsFine (Ok None)
 passed x h = absurd (cc)
 
 module _ {D : Type 0} (g : disk.Ghosts D) where
+  keeps_still : (s : ShownStore D) (x : List WriteCall) (k : List (Instant D)) → KeepsOn g s x k s x k
+  keeps_still s x k = (λ start limits content honest h. h, λ first h. h)
+
+  pub keeps_then : (a b c : ShownStore D) (x y z : List WriteCall) (k l m : List (Instant D)) → KeepsOn g a x k b y l → KeepsOn g b y l c z m → KeepsOn g a x k c z m
+  keeps_then a b c x y z k l m first second =
+      (λ start limits content honest h. second.0 start limits content honest (first.0 start limits content honest h), λ start h. second.1 start (first.1 start h))
+
   stays : (p : Place D) → IsReadyAt p → WentWell g p p
   stays p ready = record { source = refl; failures = refl; quiet = quiet_still p.store; printed = λ honest first front events h. h; ready = ready }
 
@@ -68,7 +77,7 @@ module _ {D : Type 0} (g : disk.Ghosts D) where
     };
     cause = λ x is. absurd (passed x is);
     failures = omega arith;
-    kept = λ start limits content honest h. h;
+    kept = keeps_still g p.store p.output moments;
   }
 
   pub takes_on : (a b c : Place D) (at_a at_b at_c : List (Instant D)) (first later : List Reading) (r : Result (Option Ending) Refusal)
@@ -97,7 +106,7 @@ module _ {D : Type 0} (g : disk.Ghosts D) where
         };
     cause = t.cause;
     failures = omega (arith, s.failures, t.failures);
-    kept = λ start limits content honest h. t.kept start limits content honest (s.kept start limits content honest h);
+    kept = keeps_then g a.store b.store c.store a.output b.output c.output at_a at_b at_c s.kept t.kept;
   }
 
   pub takes_room : (a b : Place D) (at_a at_b : List (Instant D)) (first : List Reading) (n : ℕ) → MayTake a (length first + n) → FeedsLines g a at_a first (Ok None) b at_b → MayTake b n

@@ -6,6 +6,7 @@ ghost use Rattle.hg_streams.specs.Faults.{IsStreamFault};
 ghost use Rattle.hg_streams.specs.Told.{told_refusal};
 ghost use Rattle.hg_pool.specs.Calls.{IsStale};
 ghost use Rattle.hg_checkpoint.specs.declared.phase.Phase.TheVariants as phase;
+ghost use Rattle.hg_store.specs.Runs.{Makes};
 ghost use Rattle.hg_store.specs.Shown.{words};
 ghost use Rattle.hg_store.specs.Steps.{IsRetired, SameButJournals};
 ghost use Rattle.hg_commands.specs.FeedRunning.{StaysFed, WasStepped, failed_of};
@@ -18,7 +19,8 @@ use crate::moment::Moment;
 use hg_checkpoint::Cause;
 use hg_disk::Disk;
 use hg_model::verdict::Refusal;
-use hg_store::steps::{EncodedPage, Put, StepFault};
+use hg_store::made::MadeStep;
+use hg_store::steps::{EncodedPage, Put, Step, StepFault, StepResult};
 use hg_store::store::Store;
 use hg_streams::output::Output;
 use std::alloc::Global;
@@ -36,15 +38,18 @@ fn refusal_of(fault: StepFault) -> Refusal
 }
 
 impl<D: Disk, W> Feeding<D, W> {
-    /// Keeps the moment after a step of a checkpoint, and passes the answer on, a fault as what ends feeding. `began` is the store before
-    /// the step.
+    /// Keeps the moment after a step of a checkpoint, and passes its answer on, a fault as what ends feeding. `began` is the store before
+    /// the step, and `done` what the answer has.
     fn note_step<T>(
         &mut self,
         began: Snapshot<Store<D>>,
+        step: &Step,
+        answer: &StepResult,
         done: Result<T, StepFault>,
         output: &Output<W>,
     ) -> Result<T, Refusal>
-        requires { WasStepped ⟦<D as Disk>⟧ began.value self.old.store done }
+        requires stepped { WasStepped ⟦<D as Disk>⟧ began.value self.old.store done }
+        requires made { Makes ⟦<D as Disk>⟧ began.value self.old.store step.now answer.now }
         ensures store { self.new.store ≡ self.old.store }
         ensures answer { IfOk result (λ answer. done ≡ Ok answer) }
         ensures stays { StaysFed ⟦<D as Disk>⟧ began.value self.new.store result }
@@ -52,7 +57,9 @@ impl<D: Disk, W> Feeding<D, W> {
         ensures kept { KeepsStep ⟦<D as Disk>⟧ began.value self.old output.now self.new }
     {
         self.store.stands();
-        self.moments.push(Moment::of(&self.store, output));
+        let made = MadeStep::of(began, step, answer);
+        self.moments
+            .push(Moment::behind(made, &self.store, output));
         match done {
             Ok(answer) => Ok(answer),
             Err(fault) => Err(refusal_of(fault)),
@@ -72,13 +79,14 @@ impl<D: Disk, W> Feeding<D, W> {
         self.store.stands();
         let began = Snapshot::of(&self.store);
         let done = self.store.freeze(alloc);
-        self.note_step(began, done, output)
+        let answer = StepResult::Frozen(done);
+        self.note_step(began, &Step::Freeze, &answer, done, output)
     }
 
     /// Writes a page that waits.
-    fn put(&mut self, page: &EncodedPage, output: &Output<W>) -> Result<Put, Refusal>
+    fn put(&mut self, page: EncodedPage, output: &Output<W>) -> Result<Put, Refusal>
         requires flushing { WorksIn phase.Flushing self.old.store }
-        requires waits { ¬ IsStale (words self.old.store) page.now }
+        requires waits { ¬ IsStale (words self.old.store) page }
         ensures stays { StaysFed ⟦<D as Disk>⟧ self.old.store self.new.store result }
         ensures frozen { self.new.store.frozen ≡ self.old.store.frozen }
         ensures turns { self.new.store.turns ≡ self.old.store.turns }
@@ -88,8 +96,9 @@ impl<D: Disk, W> Feeding<D, W> {
         ensures kept { StaysKept ⟦<D as Disk>⟧ self.old output.now self.new output.now }
     {
         let began = Snapshot::of(&self.store);
-        let done = self.store.put(page);
-        self.note_step(began, done, output)
+        let done = self.store.put(&page);
+        let answer = StepResult::Put(done);
+        self.note_step(began, &Step::Put(page), &answer, done, output)
     }
 
     /// Writes the page that is next, and answers whether there was one.
@@ -111,7 +120,7 @@ impl<D: Disk, W> Feeding<D, W> {
         let Ok(page) = job.encode() else {
             return Err(Refusal::OutOfMemory);
         };
-        self.put(&page, output)?;
+        self.put(page, output)?;
         Ok(true)
     }
 
@@ -141,7 +150,8 @@ impl<D: Disk, W> Feeding<D, W> {
     {
         let began = Snapshot::of(&self.store);
         let done = self.store.seal_pages();
-        self.note_step(began, done, output)
+        let answer = StepResult::Sealed(done);
+        self.note_step(began, &Step::SealPages, &answer, done, output)
     }
 
     /// Closes the file that the root goes to.
@@ -156,7 +166,8 @@ impl<D: Disk, W> Feeding<D, W> {
     {
         let began = Snapshot::of(&self.store);
         let done = self.store.prepare_root();
-        self.note_step(began, done, output)
+        let answer = StepResult::Prepared(done);
+        self.note_step(began, &Step::PrepareRoot, &answer, done, output)
     }
 
     /// Writes the root behind its closed gate.
@@ -171,7 +182,8 @@ impl<D: Disk, W> Feeding<D, W> {
     {
         let began = Snapshot::of(&self.store);
         let done = self.store.write_root(alloc);
-        self.note_step(began, done, output)
+        let answer = StepResult::Written(done);
+        self.note_step(began, &Step::WriteRoot, &answer, done, output)
     }
 
     /// Opens the root, and answers its number.
@@ -187,7 +199,8 @@ impl<D: Disk, W> Feeding<D, W> {
     {
         let began = Snapshot::of(&self.store);
         let done = self.store.open_root();
-        self.note_step(began, done, output)
+        let answer = StepResult::Opened(done);
+        self.note_step(began, &Step::OpenRoot, &answer, done, output)
     }
 
     /// Gives up the events that the newest root counts, but for those of the current journal. Answers whether there were any.
@@ -200,9 +213,16 @@ impl<D: Disk, W> Feeding<D, W> {
         ensures cause { IfErr result IsStreamFault }
         ensures kept { StaysKept ⟦<D as Disk>⟧ self.old output.now self.new output.now }
     {
+        let began = Snapshot::of(&self.store);
         let retired = self.store.retire();
         self.store.stands();
-        self.moments.push(Moment::of(&self.store, output));
+        let made = MadeStep::of(
+            began,
+            &Step::Retire,
+            &StepResult::Retired(retired),
+        );
+        self.moments
+            .push(Moment::behind(made, &self.store, output));
         retired
     }
 

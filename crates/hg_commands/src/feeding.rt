@@ -9,7 +9,7 @@ ghost use Rattle.hg_store.specs.Store.{IsIdle};
 ghost use Rattle.hg_commands.specs.FeedRunning.{IsReady, is_due, place};
 ghost use Rattle.hg_streams.specs.Faults.{IsStreamFault, TellsNoFault};
 ghost use Rattle.hg_streams.specs.Printed.{IsPrintedNow};
-ghost use Rattle.hg_commands.specs.Stepping.{AcksAreKept, Checkpointed, Done, Failed, FailedFor, Fails, FaultIsTold, FedOrFault, FedWhere, FeedsFrom, FrontWhere, IsOnWay, KeepsAcks, LeavesFront, LeftFront, MayHaveTold, StaysKept, FeedsWell, end_of};
+ghost use Rattle.hg_commands.specs.Stepping.{AcksAreKept, Checkpointed, Done, Failed, FailedFor, Fails, FaultIsTold, FedOrFault, FedWhere, FeedsFrom, FrontWhere, IsOnWay, KeepsAcks, LeavesFront, LeftFront, MayHaveTold, MomentsAreRun, StaysKept, FeedsWell, TellsRun, end_of};
 ghost use Rattle.hg_commands.specs.FeedFaults.{IsFeedFault, Rests};
 ghost use Rattle.hg_commands.specs.Instants.{WereOpenWith};
 ghost use Rattle.hg_commands.specs.Storing.{EndsFlushed};
@@ -250,6 +250,7 @@ fn recover_and_feed<T: Threads + Sync, D: Disk, R: Read, W: Write>(
     ensures front { LeavesFront ⟦<D as Disk>⟧ settings devices input.old input.new output.old output.new result }
     ensures cause { FailedFor ⟦<D as Disk>⟧ settings devices input.old input.new output.old output.new result }
     ensures kept { AcksAreKept ⟦<D as Disk>⟧ settings devices input.old input.new output.old output.new result }
+    ensures driven { MomentsAreRun ⟦<D as Disk>⟧ devices output.old output.new result }
     ensures limits { IsTrue D.is_honest → WereOpenWith settings.frames result.2 }
 {
     match Store::recover(alloc, devices, settings.frames, Caps::profile()) {
@@ -298,7 +299,8 @@ fn recover_and_feed<T: Threads + Sync, D: Disk, R: Read, W: Write>(
 /// memory or room was refused, which is told among the faults. What was printed before that is a front of what was due.
 ///
 /// Whatever the status, a crash at any moment of the call loses no event that an `ack` written by then counts. The moments in the
-/// outcome show it: the first is the opening of the store, and one comes after each step of the store. A checkpoint changes no content.
+/// outcome show it: the first is the opening of the store, and one comes after each step of the store and tells it. So what was done to the
+/// store is a run as `Store::drive` makes it. A checkpoint changes no content.
 /// Behind it one journal is spare, so of the events that it counts those of the other one alone are kept; none is, if one was spare at first.
 ///
 /// Up to `jobs` threads read the lines of large pieces; what is done and printed never depends on how many.
@@ -316,6 +318,7 @@ pub fn feed<T: Threads + Sync, D: Disk, R: Read, W: Write, V: Write>(
     ensures quiet { TellsNoFault result.status streams.old streams.new }
     ensures fault { FaultIsTold ⟦<D as Disk>⟧ settings devices streams.old streams.new result }
     ensures kept { KeepsAcks ⟦<D as Disk>⟧ settings devices streams.old result streams.new }
+    ensures driven { TellsRun ⟦<D as Disk>⟧ devices streams.old result streams.new }
     ensures limits { IsTrue D.is_honest → WereOpenWith settings.frames result.moments }
 {
     let (done, devices, moments) = recover_and_feed(

@@ -11,17 +11,20 @@ ghost use Rattle.hg_commands.specs.FeedFaults.{IsLineFault};
 ghost use Rattle.hg_commands.specs.Offering.{event_of, reading_of};
 
 use crate::moment::Moment;
-use crate::offering::{EventParts, offer_parts};
+use crate::offering::{EventParts, named_of, offer_parts};
 use hg_detect::detector::Answer;
 use hg_disk::Disk;
 use hg_model::verdict::Refusal;
 use hg_reading::ending::Ending;
+use hg_store::made::MadeStep;
+use hg_store::steps::{Step, StepResult};
 use hg_store::store::Store;
 use hg_streams::output::Output;
 use hg_streams::printing::print_number;
 use hg_trail::Trail;
 use hg_wire::reader::Reading;
 use std::io::Write;
+use std::snapshot::Snapshot;
 
 /// After how many accepted events a commit comes.
 const BATCH: u64 = 256;
@@ -60,9 +63,16 @@ impl<D: Disk, W: Write> Feeding<D, W> {
         ensures fed { self.new.fed ≡ self.old.fed }
         ensures kept { StaysKept ⟦<D as Disk>⟧ self.old output.old self.new output.new }
     {
+        let began = Snapshot::of(&self.store);
         let committed = self.store.commit();
         self.store.stands();
-        self.moments.push(Moment::of(&self.store, &*output));
+        let made = MadeStep::of(
+            began,
+            &Step::Commit,
+            &StepResult::Committed(committed),
+        );
+        self.moments
+            .push(Moment::behind(made, &self.store, &*output));
         print_number(b"ack ", committed?, output)
     }
 
@@ -93,9 +103,13 @@ impl<D: Disk, W: Write> Feeding<D, W> {
         ensures kept { StaysKept ⟦<D as Disk>⟧ self.old output.now self.new output.now }
     {
         self.fed.number += 1;
+        let began = Snapshot::of(&self.store);
         let answer = offer_parts(&mut self.store, self.fed.source, self.fed.number, parts);
         self.store.stands();
-        self.moments.push(Moment::of(&self.store, output));
+        let step = Step::Offer(named_of(self.fed.source, self.fed.number, parts));
+        let made = MadeStep::of(began, &step, &StepResult::Offered(answer));
+        self.moments
+            .push(Moment::behind(made, &self.store, output));
         answer
     }
 

@@ -12,6 +12,7 @@ use hg_detect::detector::Answer;
 use hg_disk::Disk;
 use hg_model::event::{Access, Event, Hold, Named};
 use hg_model::verdict::Refusal;
+use hg_store::offer::{named_access, named_hold};
 use hg_store::store::Store;
 
 /// An event: a read, a write and an event on a lock in the parts that their lines were read in.
@@ -47,5 +48,20 @@ pub(crate) fn offer_parts<D: Disk>(
             number,
             event,
         }),
+    }
+}
+
+/// The event of these parts, under this number of its source.
+pub(crate) fn named_of(source: u16, number: u64, parts: EventParts) -> Named
+    ensures { result ≡ named_by source number parts }
+{
+    match parts {
+        EventParts::Access { access, write } => named_access(source, number, access, write),
+        EventParts::Hold(hold) => named_hold(source, number, hold),
+        EventParts::Whole(event) => Named {
+            source,
+            number,
+            event,
+        },
     }
 }

@@ -37,9 +37,11 @@ use Rattle.hg_store.specs.Paging.{MovesOnlyPages}
 use Rattle.hg_store.specs.Steps.{CommitDone, OfferDone, RetireDone, if_accepted}
 use Rattle.hg_store.specs.declared.steps.StepFault.{StepFault}
 use Rattle.hg_store.specs.declared.steps.StepFault.TheVariants.{Refused, WrongPhase}
+use Rattle.hg_store.specs.Runs.{Made, MadeAlong, Makes, made}
 use Rattle.hg_store.specs.Store.{Backs}
+use Rattle.hg_store.proofs.Driven.{made_drive, made_steps, made_then}
 use Rattle.hg_store.proofs.Moments.{all_still}
-use Rattle.hg_desk.specs.Going.{Began, FailedFrom, LeadsTo, Point, WentOn, began, of_points, oldest, points_of}
+use Rattle.hg_desk.specs.Going.{Began, FailedFrom, IsRun, LeadsTo, Point, RanFrom, WentOn, began, of_points, oldest, points_of}
 use Rattle.hg_desk.specs.Told.{HasAcked}
 
 one_more : (b : Bool) (k : ℕ) → k ≤ (if b then k + 1 else k)
@@ -323,3 +325,23 @@ module _ {D : Type 0} (g : disk.Ghosts D) where
                 (went.images honest),
           );
     }
+
+module _ {D : Type 0} (g : disk.Ghosts D) where
+  -- no step was made yet
+  pub ran_nowhere : (s : ShownStore D) (steps : List (Made D)) → steps ≡ [] → (IsTrue g.is_honest → Backs g s) → RanFrom g (began g s) steps s
+  ran_nowhere s steps none backs = record { first = s; is_start = refl; backs = backs; along = subst (λ (list : List (Made D)). MadeAlong g s list s) (sym none) refl }
+
+  -- one step more was made
+  pub ran_on : (start : Began) (old new : ShownStore D) (earlier steps : List (Made D)) (step : Step) (result : StepResult) → steps ≡ made old step result ∷ earlier → Makes g old new step result
+      → (IsTrue g.is_honest → Backs g new) → RanFrom g start earlier old → RanFrom g start steps new
+  ran_on start old new earlier steps step result is makes backs ran =
+      record { first = ran.first; is_start = ran.is_start; backs = ran.backs; along = made_then g ran.first old new earlier steps step result is makes backs ran.along }
+
+  -- what was made is a run
+  pub is_run : (start : Began) (steps : List (Made D)) (now : ShownStore D) → RanFrom g start steps now → IsRun g start steps now
+  is_run start steps now ran = record {
+    first = ran.first;
+    is_start = ran.is_start;
+    each = made_steps g ran.first now steps ran.along;
+    run = λ honest. made_drive g honest ran.first now steps (ran.backs honest) ran.along;
+  }

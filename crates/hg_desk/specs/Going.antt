@@ -7,7 +7,9 @@ use Rattle.hg_disk.specs.State.{DiskState}
 use Rattle.hg_disk.specs.declared.disk.Disk as disk
 use Rattle.hg_store.specs.declared.devices.Devices.{Devices}
 use Rattle.hg_store.specs.Images.{EachImageAlong, IsOn, failures_of}
+use Rattle.hg_store.specs.Runs.{DriveDone, Made, MadeAlong, StepsDone, steps_of, told_to}
 use Rattle.hg_store.specs.Shown.{ShownStore, live, saved}
+use Rattle.hg_store.specs.Store.{Backs}
 
 -- Events, each accepted after those before it, lead from one content to another.
 abbrev pub LeadsTo : Content → Content → Type 0
@@ -35,6 +37,10 @@ abbrev pub oldest : {X : Type 0} → X → List X → X
 oldest now [] = now
 oldest now (mid ∷ earlier) = oldest mid earlier
 
+-- the devices when each of these steps began
+abbrev pub moments_of : {D : Type 0} → List (Made D) → List (Devices D)
+moments_of steps = map (λ m. m.began.devices) steps
+
 module _ {D : Type 0} (g : disk.Ghosts D) where
   abbrev pub point_of : D → Point
   point_of d = record { state = g.state d; past = g.past d; failures = g.failures d }
@@ -60,6 +66,25 @@ module _ {D : Type 0} (g : disk.Ghosts D) where
     pub broken : start.is_broken ≡ false → now.is_broken ≡ true → FailedFrom start now
     pub opening : oldest (points_of now.devices) (map points_of moments) ≡ start.devices
     pub images : IsTrue g.is_honest → EachImageAlong (of_points g.is_honest) start.devices (map points_of moments) (points_of now.devices) (IsOn start.saved (live g now))
+
+  -- These steps, the newest first, led from the store at the opening of the lock to the one now, each to where the next one began.
+  pub record RanFrom (start : Began) (steps : List (Made D)) (now : ShownStore D) : Type 0 where
+    pub first : ShownStore D
+    pub is_start : began first ≡ start
+    pub backs : IsTrue g.is_honest → Backs g first
+    pub along : MadeAlong g first steps now
+
+  -- These steps, the newest first, were made from the store at the opening of the lock to the one now. On any devices each step has its
+  -- answer, and leads to where the next one began. Over honest devices they are a run from the durable content of then.
+  pub record IsRun (start : Began) (steps : List (Made D)) (now : ShownStore D) : Type 0 where
+    pub first : ShownStore D
+    pub is_start : began first ≡ start
+    pub each : StepsDone g first now (steps_of steps) (told_to steps)
+    pub run : IsTrue g.is_honest → DriveDone g first now (steps_of steps) (told_to steps)
+
+  -- They did, where the opening is known.
+  abbrev pub RanSince : Option Began → List (Made D) → ShownStore D → Type 0
+  RanSince opening steps now = (start : Began) → opening ≡ Some start → RanFrom start steps now
 
   -- The store went on from what it was at the opening of the lock, where that is known.
   abbrev pub WentOnSince : Option Began → List (Devices D) → ShownStore D → Type 0

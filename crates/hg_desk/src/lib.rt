@@ -2,9 +2,8 @@
 #![tactic(auto)]
 
 pub mod desk;
+mod listed;
 pub mod locked;
-mod made;
-pub mod moment;
 mod offering;
 mod sets;
 pub mod share;

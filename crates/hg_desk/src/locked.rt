@@ -13,8 +13,7 @@ ghost use Rattle.hg_store.specs.declared.steps.StepResult.TheVariants as told;
 ghost use Rattle.hg_desk.specs.Told.{StepKept, ack, fitting, listed, made_durable, nothing_told, taken};
 
 use crate::desk::refused;
-use crate::made::MadeStep;
-use crate::moment::Moment;
+use crate::listed::ListedStep;
 use crate::offering::offer_to;
 use crate::sets::are_thread_sets;
 use crate::share::{Column, Opening, Share};
@@ -25,15 +24,17 @@ use hg_model::verdict::Refusal;
 use hg_protocol::lines::{ReportLines, ReportList};
 use hg_protocol::reply::Reply;
 use hg_receipts::{Acked, Blank as BlankRegister, Register};
+use hg_store::made::MadeStep;
 use hg_store::steps::{Cause, Step, StepFault, StepResult};
 use hg_store::store::Store;
 use hg_trail::Trail;
 use std::alloc::Global;
 use std::marker::Model;
+use std::snapshot::Snapshot;
 use std::sync::ledger::{Blank, Book};
 
 /// A store, and the books: how many events were accepted and made durable since the opening. The books have no bytes, so
-/// the counts stand beside them. The moments are those at which the steps since the opening began, which contracts alone see.
+/// the counts stand beside them. The steps are those since the opening, the newest first, which contracts alone see.
 #[derive(Drop)]
 pub struct Core<D: Disk, A: Opening, B: Column> {
     pub(crate) store: Store<D>,
@@ -41,7 +42,7 @@ pub struct Core<D: Disk, A: Opening, B: Column> {
     pub(crate) durable: Book<B>,
     pub(crate) accepted_count: u64,
     pub(crate) durable_count: u64,
-    pub(crate) moments: Trail<Moment<D>>,
+    pub(crate) steps: Trail<MadeStep<D>>,
     /// The acknowledgements that were given.
     pub(crate) acks: Register<A>,
 }
@@ -54,7 +55,7 @@ impl<D: Disk, A: Opening, B: Column> Model for Core<D, A, B> {
 
     ghost view = { λ c. c.store };
 
-    ghost invariant = { λ c. IsCore ⟦<D as Disk>⟧ A.start A.opening B.opening c.store c.accepted.total c.durable.total c.accepted_count c.durable_count c.moments c.acks };
+    ghost invariant = { λ c. IsCore ⟦<D as Disk>⟧ A.start A.opening B.opening c.store c.accepted.total c.durable.total c.accepted_count c.durable_count c.steps c.acks };
 }
 
 /// How many events were accepted and made durable since the opening.
@@ -114,7 +115,7 @@ fn note_step<A: Opening, B: Column>(share: &mut Share<A, B>, step: &Step, answer
     match step {
         Step::Offer(_) => {}
         Step::Commit => {}
-        _ => share.steps.push(MadeStep::of(step, answer)),
+        _ => share.steps.push(ListedStep::of(step, answer)),
     }
 }
 
@@ -159,15 +160,13 @@ fn durable_by(before: u64, answer: &StepResult) -> u64
     }
 }
 
-/// Notes the moment at which a step begins. Answers how many events are durable then, 0 where the store is broken.
-fn note_moment<D: Disk>(store: &Store<D>, moments: &mut Trail<Moment<D>>) -> u64
-    ensures moments { moments.new ≡ store.now.devices ∷ moments.old }
+/// How many events are durable as a step begins, 0 where the store is broken.
+fn durable_before<D: Disk>(store: &Store<D>) -> u64
     ensures durable { store.now.is_broken ≡ false → result ≡ store.now.durable }
     ensures events { store.now.is_broken ≡ false → (live ⟦<D as Disk>⟧ store.now).events < 2 ^ 64 }
     ensures backs { IsTrue D.is_honest → Backs ⟦<D as Disk>⟧ store.now }
     ensures count { IsTrue D.is_honest → HasCounted ⟦<D as Disk>⟧ store.now }
 {
-    moments.push(Moment::of(store));
     store.stands();
     let _all = store.events();
     store.durable().unwrap_or(0)
@@ -213,7 +212,7 @@ impl<D: Disk, A: Opening, B: Column> Core<D, A, B> {
             durable,
             accepted_count: 0,
             durable_count: 0,
-            moments: Trail::new(),
+            steps: Trail::new(),
             acks,
         };
         Ok((core, all))
@@ -225,8 +224,11 @@ impl<D: Disk, A: Opening, B: Column> Core<D, A, B> {
     pub fn step(&mut self, alloc: Global, share: &mut Share<A, B>, step: &Step) -> StepResult
         ensures { StepKept ⟦<D as Disk>⟧ self.old self.new share.old share.new step.now result }
     {
-        let before = note_moment(&self.store, &mut self.moments);
+        let before = durable_before(&self.store);
+        let began = Snapshot::of(&self.store);
         let result = self.store.step(alloc, step);
+        self.store.stands();
+        self.steps.push(MadeStep::of(began, step, &result));
         let _more = self.store.events();
         note_accepted(
             &mut self.accepted,
@@ -249,8 +251,16 @@ impl<D: Disk, A: Opening, B: Column> Core<D, A, B> {
     pub fn offer(&mut self, share: &mut Share<A, B>, named: &Named) -> Result<Answer, Refusal>
         ensures { StepKept ⟦<D as Disk>⟧ self.old self.new share.old share.new (step.Offer named.now) (told.Offered result) }
     {
-        let _before = note_moment(&self.store, &mut self.moments);
+        let _before = durable_before(&self.store);
+        let began = Snapshot::of(&self.store);
         let answer = offer_to(&mut self.store, named);
+        self.store.stands();
+        let made = MadeStep::of(
+            began,
+            &Step::Offer(*named),
+            &StepResult::Offered(answer),
+        );
+        self.steps.push(made);
         let _more = self.store.events();
         note_accepted(
             &mut self.accepted,
@@ -265,8 +275,16 @@ impl<D: Disk, A: Opening, B: Column> Core<D, A, B> {
     pub fn commit(&mut self, share: &mut Share<A, B>) -> Result<u64, Refusal>
         ensures { StepKept ⟦<D as Disk>⟧ self.old self.new share.old share.new step.Commit (told.Committed result) }
     {
-        let before = note_moment(&self.store, &mut self.moments);
+        let before = durable_before(&self.store);
+        let began = Snapshot::of(&self.store);
         let answer = self.store.commit();
+        self.store.stands();
+        let made = MadeStep::of(
+            began,
+            &Step::Commit,
+            &StepResult::Committed(answer),
+        );
+        self.steps.push(made);
         let _more = self.store.events();
         note_durable(
             &mut self.durable,
@@ -291,7 +309,7 @@ impl<D: Disk, A: Opening, B: Column> Core<D, A, B> {
     pub(crate) fn went_on(&self)
         ensures { HadSince ⟦<D as Disk>⟧ A.start self.now }
     {
-        let _ = &self.moments;
+        let _ = &self.steps;
     }
 
     /// Commits where so many more events do not fit behind those that wait for a commit.

@@ -4,16 +4,16 @@ ghost use Rattle.std.specs.Prelude.{◌≡◌, ◌+◌, ◌≤◌, ◌⊎◌, �
 ghost use Rattle.hg_receipts.specs.Receipts.{AreAmong};
 ghost use Rattle.hg_store.specs.Shown.{live, saved};
 ghost use Rattle.hg_desk.specs.Blanks.{IsBlankOf};
-ghost use Rattle.hg_desk.specs.Going.{WentOnSince, began};
+ghost use Rattle.hg_desk.specs.Going.{RanSince, WentOnSince, began, moments_of};
 ghost use Rattle.hg_desk.specs.Counting.{AreAcked, AreDisputed, HasTheirAcks, HasTheirDurable, HasTheirEvents, ImagesHaveThem, WhereAll, accepted_in, durable_in, events_of};
 ghost use Rattle.hg_desk.specs.Told.{nothing_told};
 
 use crate::locked::Core;
-use crate::moment::Moment;
 use crate::share::{Column, Opening, Share};
 use crate::tasks::Task;
 use hg_disk::Disk;
 use hg_receipts::{Blank as BlankRegister, Register};
+use hg_store::made::MadeStep;
 use hg_store::store::Store;
 use hg_trail::Trail;
 use std::alloc::Global;
@@ -30,8 +30,8 @@ pub struct Shared<D: Disk, A: Opening, B: Column> {
 #[derive(Drop)]
 pub struct TakenIn<D: Disk> {
     pub store: Store<D>,
-    /// The moments at which the steps since the opening began, the newest first, which contracts alone see.
-    pub moments: Trail<Moment<D>>,
+    /// The steps since the opening, the newest first, which contracts alone see.
+    pub steps: Trail<MadeStep<D>>,
 }
 
 /// What the shares were told, and what the books have.
@@ -80,7 +80,8 @@ impl<D: Disk, A: Opening, B: Column> Shared<D, A, B> {
 
     /// Takes the store back without comparing shares with the books, for where shares are lost.
     pub fn into_store(self) -> TakenIn<D>
-        ensures since { WentOnSince ⟦<D as Disk>⟧ A.start result.moments result.store }
+        ensures since { WentOnSince ⟦<D as Disk>⟧ A.start (moments_of result.steps) result.store }
+        ensures ran { RanSince ⟦<D as Disk>⟧ A.start result.steps result.store }
     {
         self.core.into_inner().into_store()
     }
@@ -136,7 +137,8 @@ impl<D: Disk, A: Opening, B: Column> Core<D, A, B> {
 
     fn into_store(self) -> TakenIn<D>
         ensures store { result.store ≡ self }
-        ensures since { WentOnSince ⟦<D as Disk>⟧ A.start result.moments result.store }
+        ensures since { WentOnSince ⟦<D as Disk>⟧ A.start (moments_of result.steps) result.store }
+        ensures ran { RanSince ⟦<D as Disk>⟧ A.start result.steps result.store }
     {
         let Core {
             store,
@@ -144,10 +146,10 @@ impl<D: Disk, A: Opening, B: Column> Core<D, A, B> {
             durable: _,
             accepted_count: _,
             durable_count: _,
-            moments,
+            steps,
             acks: _,
         } = self;
-        TakenIn { store, moments }
+        TakenIn { store, steps }
     }
 }
 
@@ -238,7 +240,8 @@ pub fn gather<D: Disk, A: Opening, B: Column>(
 ) -> Result<TakenIn<D>, (Vec<Share<A, B>>, Shared<D, A, B>, Tally)>
     ensures events { IsTrue D.is_honest → IfOk result (HasTheirEvents ⟦<D as Disk>⟧ A.opening shares.items) }
     ensures durable { IsTrue D.is_honest → IfOk result (HasTheirDurable ⟦<D as Disk>⟧ B.opening shares.items) }
-    ensures since { IfOk result (λ r. WentOnSince ⟦<D as Disk>⟧ A.start r.moments r.store) }
+    ensures since { IfOk result (λ r. WentOnSince ⟦<D as Disk>⟧ A.start (moments_of r.steps) r.store) }
+    ensures ran { IfOk result (λ r. RanSince ⟦<D as Disk>⟧ A.start r.steps r.store) }
     ensures images { IsTrue D.is_honest → IfOk result (ImagesHaveThem ⟦<D as Disk>⟧ B.opening shares.items) }
     // What the shares were told is acknowledged, the durable content has.
     ensures acked { IsTrue D.is_honest → IfOk result (HasTheirAcks ⟦<D as Disk>⟧ shares.items) }

@@ -4,16 +4,16 @@ use Rattle.std.proofs.lemmas.Bool.{false≢true, true≢false}
 use Rattle.hg_store.specs.declared.steps.Step.{Step}
 use Rattle.hg_store.specs.declared.steps.Step.TheVariants as step
 use Rattle.hg_store.specs.declared.steps.StepResult.{StepResult}
-use Rattle.hg_desk.specs.Told.{IsListed, ListsFreeze, Made, Told, listed}
+use Rattle.hg_desk.specs.Told.{IsListed, Listed, ListsFreeze, Told, listed}
 use Rattle.hg_server.specs.Flushing.{AreRetired, may_open, opened, retires}
 
 -- where no retirement is wanted, one does no harm
-pub with_one : (steps : List Made) (is_retired : Bool) → AreRetired false steps → AreRetired is_retired steps
+pub with_one : (steps : List Listed) (is_retired : Bool) → AreRetired false steps → AreRetired is_retired steps
 with_one [] is_retired are = tt
 with_one (made ∷ earlier) is_retired are = (λ is. absurd (false≢true (are.0 is)), are.1)
 
 -- a step that opens no root
-other_listed : (made : Step) (result : StepResult) (steps : List Made) → may_open made ≡ false → AreRetired false steps → AreRetired false (listed made result ++ steps)
+other_listed : (made : Step) (result : StepResult) (steps : List Listed) → may_open made ≡ false → AreRetired false steps → AreRetired false (listed made result ++ steps)
 other_listed (step.Offer n) result steps none are = are
 other_listed step.Commit result steps none are = are
 other_listed step.Freeze result steps none are = (λ is. absurd (false≢true is), are)

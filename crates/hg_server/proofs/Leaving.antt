@@ -11,6 +11,7 @@ use Rattle.hg_images.specs.Images.{HasContent}
 use Rattle.hg_store.specs.Journal.{after_refusal}
 use Rattle.hg_store.specs.declared.devices.Devices.{Devices}
 use Rattle.hg_store.specs.Images.{EachImage, EachImageAlong, HasContentOfOne, IsOn, Recovers, failures_of, read_of}
+use Rattle.hg_store.specs.Runs.{Made}
 use Rattle.hg_store.specs.Shown.{ShownStore, live}
 use Rattle.hg_store.specs.Steps.{IsCommitted, IsNotCommitted}
 use Rattle.hg_store.specs.Store.{Backs, IsFresh, IsIdle}
@@ -19,12 +20,12 @@ use Rattle.hg_streams.specs.Faults.{HasWriteCause}
 use Rattle.hg_streams.specs.Written.{Took, TookFront}
 use Rattle.hg_streams.proofs.Printed.{failed_on}
 use Rattle.hg_streams.specs.declared.call.WriteCall.{WriteCall}
-use Rattle.hg_desk.specs.Going.{LeadsTo, Point, WentOn, began, of_points, oldest, points_of}
-use Rattle.hg_desk.proofs.Going.{along_of_points, each_of_points, each_to_points, oldest_point}
+use Rattle.hg_desk.specs.Going.{IsRun, LeadsTo, Point, RanFrom, WentOn, began, moments_of, of_points, oldest, points_of}
+use Rattle.hg_desk.proofs.Going.{along_of_points, each_of_points, each_to_points, is_run, oldest_point}
 use Rattle.hg_store.specs.Limits.{greatest_with, limits_of}
 use Rattle.hg_server.specs.Acknowledged.{LeavesAcksDurable}
 use Rattle.hg_server.specs.Recording.{Accounts, NoneLacks, held_in, refusal_of}
-use Rattle.hg_server.specs.Serving.{IsAccounted, Served, StoppedEarly, WasOpened, serving_by}
+use Rattle.hg_server.specs.Serving.{IsAccounted, LeavesRun, Served, StoppedEarly, WasOpened, serving_by}
 use Rattle.hg_server.specs.Settling.{IsCommitFault, IsServingFault, IsSettled, SettlesOrBreaks, StopsFor}
 use Rattle.hg_server.specs.declared.course.Course.{Course}
 use Rattle.hg_server.specs.declared.settings.Settings.{Settings}
@@ -126,6 +127,12 @@ module _ {D : Type 0} (g : disk.Ghosts D) where
     backs = λ honest. (fresh honest).2.backs;
   }
 
+  -- what was done to its store is a run
+  pub leaves_run : (start now : ShownStore D) (course : Course D) (first : ShownStore D) (steps : List (Made D)) → course.opened ≡ first ∷ [] → first ≡ start → course.steps ≡ steps → RanFrom g (began g start) steps now → LeavesRun g course now
+  leaves_run start now course first steps pushed is same ran other opened =
+      let one : start ≡ other = cc in
+      subst (λ (s : ShownStore D). IsRun g (began g s) course.steps now) one (subst (λ (list : List (Made D)). IsRun g (began g start) list now) (sym same) (is_run g (began g start) steps now ran))
+
   module _ (old : Devices D) (start now : ShownStore D) (moments : List (Devices D)) (went : WentOn g (began g start) moments now) where
     abbrev opened : Devices D
     opened = oldest now.devices moments
@@ -134,7 +141,7 @@ module _ {D : Type 0} (g : disk.Ghosts D) where
     is_opening = oldest_point g moments now.devices ∙ went.opening
 
     -- it was opened with these limits
-    pub was_opened : (frames : ℕ) (course : Course D) (first : ShownStore D) → limits_of start ≡ greatest_with frames → course.opened ≡ first ∷ [] → first ≡ start → course.moments ≡ moments
+    pub was_opened : (frames : ℕ) (course : Course D) (first : ShownStore D) → limits_of start ≡ greatest_with frames → course.opened ≡ first ∷ [] → first ≡ start → moments_of course.steps ≡ moments
         → WasOpened g frames course now.devices
     was_opened frames course first limits pushed is same = record {
       store = start;
@@ -169,11 +176,11 @@ module _ {D : Type 0} (g : disk.Ghosts D) where
 
     -- it ended early
     pub stopped_early : (settings : Settings) (course : Course D) (first : ShownStore D) (left : Devices D) (taken : Taken) (calls_old calls_new : List WriteCall) (r : Refusal) → limits_of start ≡ greatest_with settings.frames
-        → course.opened ≡ first ∷ [] → first ≡ start → course.moments ≡ moments → course.left ≡ now ∷ [] → course.taken ≡ taken → left ≡ now.devices → failures_of g start.devices ≡ failures_of g old
+        → course.opened ≡ first ∷ [] → first ≡ start → moments_of course.steps ≡ moments → course.left ≡ now ∷ [] → course.taken ≡ taken → left ≡ now.devices → failures_of g start.devices ≡ failures_of g old
         → (IsTrue g.is_honest → (c : Content) × HasContent (read_of g old) c × IsFresh g start c) → (IsTrue g.is_honest → Recovers g old start.devices)
-        → IsServingFault g start.devices moments now taken calls_old calls_new r → IsAccounted g settings course → TookFront calls_old calls_new (serving_by g settings now) → LeavesAcksDurable g course now
+        → IsServingFault g start.devices moments now taken calls_old calls_new r → IsAccounted g settings course → LeavesRun g course now → TookFront calls_old calls_new (serving_by g settings now) → LeavesAcksDurable g course now
         → StoppedEarly g settings old course left calls_old calls_new r
-    stopped_early settings course first left taken calls_old calls_new r limits pushed is same ended took devices none content looked cause accounts wrote acked =
+    stopped_early settings course first left taken calls_old calls_new r limits pushed is same ended took devices none content looked cause accounts driven wrote acked =
         subst (λ (d : Devices D). StoppedEarly g settings old course d calls_old calls_new r) (sym devices) (record {
           store = now;
           left = ended;
@@ -184,6 +191,7 @@ module _ {D : Type 0} (g : disk.Ghosts D) where
               (since_opening old start.devices moments now taken calls_old calls_new r none cause));
           accounts = accounts;
           served = subst (λ (ms : List (Devices D)). IsTrue g.is_honest → Served g old ms now.devices (live g now)) (sym same) (served content looked);
+          driven = driven;
           wrote = wrote;
           acked = acked;
         })

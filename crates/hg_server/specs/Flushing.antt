@@ -4,7 +4,7 @@ use Rattle.hg_store.specs.declared.steps.Step.{Step}
 use Rattle.hg_store.specs.declared.steps.Step.TheVariants as step
 use Rattle.hg_store.specs.declared.steps.StepResult.{StepResult}
 use Rattle.hg_store.specs.declared.steps.StepResult.TheVariants.{Opened}
-use Rattle.hg_desk.specs.Told.{Made, Told}
+use Rattle.hg_desk.specs.Told.{Listed, Told}
 
 -- Whether this step may open a root, and whether this answer says that one was opened.
 abbrev pub may_open : Step → Bool
@@ -27,7 +27,7 @@ retires _ = false
 
 -- Each of these steps, the newest first, that opened a root has one that retires right behind it. `is_retired` says whether one that
 -- retires comes behind the newest of them.
-abbrev pub AreRetired : (is_retired : Bool) → List Made → Type 0
+abbrev pub AreRetired : (is_retired : Bool) → List Listed → Type 0
 AreRetired is_retired [] = Unit {0}
 AreRetired is_retired (made ∷ earlier) = (opens made.step made.result ≡ true → is_retired ≡ true) × AreRetired (retires made.step) earlier
 

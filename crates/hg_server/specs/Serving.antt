@@ -9,7 +9,7 @@ use Rattle.hg_images.specs.Images.{HasContent}
 use Rattle.hg_store.specs.declared.devices.Devices.{Devices}
 use Rattle.hg_store.specs.Images.{EachImageAlong, IsOn, Recovers, read_of}
 use Rattle.hg_store.specs.Shown.{ShownStore, live}
-use Rattle.hg_desk.specs.Going.{LeadsTo, oldest, points_of}
+use Rattle.hg_desk.specs.Going.{IsRun, LeadsTo, began, moments_of, oldest, points_of}
 use Rattle.hg_streams.specs.Written.{Took, TookFront}
 use Rattle.hg_streams.specs.Texts.{line_text, number_text, counts_line}
 use Rattle.hg_streams.specs.Faults.{IsTold}
@@ -83,11 +83,11 @@ module _ {D : Type 0} (g : disk.Ghosts D) where
 
   -- Why serving a store that had these devices ended early.
   abbrev pub EndsFor : {E : Type 0} → Devices D → Service D E → ServingFault → Type 0
-  EndsFor devices service told = StopsFor g devices service.moments service.store service.taken told
+  EndsFor devices service told = StopsFor g devices (moments_of service.steps) service.store service.taken told
 
   -- The same with what was printed.
   abbrev pub EndsByFault : {W E : Type 0} → Devices D → (old new : Outgoing W) → Service D E → Refusal → Type 0
-  EndsByFault devices old new service r = IsServingFault g devices service.moments service.store service.taken old.calls new.calls r
+  EndsByFault devices old new service r = IsServingFault g devices (moments_of service.steps) service.store service.taken old.calls new.calls r
 
   -- What is on record of the conversations, and how many connections workers took, by what cut that short.
   abbrev pub AccountsFor : {E : Type 0} → Settings → Service D E → Type 0
@@ -102,7 +102,7 @@ module _ {D : Type 0} (g : disk.Ghosts D) where
     pub store : ShownStore D
     pub once : course.opened ≡ store ∷ []
     pub limits : limits_of store ≡ greatest_with frames
-    pub is_oldest : points_of g (oldest new course.moments) ≡ points_of g store.devices
+    pub is_oldest : points_of g (oldest new (moments_of course.steps)) ≡ points_of g store.devices
 
   -- What a server leaves that went through these moments, the newest first, and whose store ends with the content `last`. The store was
   -- opened with the content that the devices had; looking for it left each image the content of an image before. The events of clients lead
@@ -116,6 +116,10 @@ module _ {D : Type 0} (g : disk.Ghosts D) where
     pub looked : Recovers g old opened
     pub kept : EachImageAlong g opened moments new (IsOn first last)
 
+  -- What was done to the store from its opening to the end is a run of its steps, which the course has.
+  abbrev pub LeavesRun : Course D → (left : ShownStore D) → Type 0
+  LeavesRun course left = (start : ShownStore D) → course.opened ≡ start ∷ [] → IsRun g (began g start) course.steps left
+
   -- A server that came to its end: workers took as many connections as they should, the course has as many conversations, all was printed,
   -- each accepted event is durable, and each was accepted in a conversation of the course.
   pub record EndsWell (settings : Settings) (old : Devices D) (course : Course D) (store : ShownStore D) (calls_old calls_new : List WriteCall) : Type 0 where
@@ -123,7 +127,8 @@ module _ {D : Type 0} (g : disk.Ghosts D) where
     pub all_held : held_in course.talks ≡ settings.connections
     pub printed : Took calls_old calls_new (serving_by settings store)
     pub began : WasOpened settings.frames course store.devices
-    pub served : IsTrue g.is_honest → Served old course.moments store.devices (live g store)
+    pub served : IsTrue g.is_honest → Served old (moments_of course.steps) store.devices (live g store)
+    pub driven : LeavesRun course store
     pub settled : IsSettled g store
     pub acked : LeavesAcksDurable g course store
     pub recorded : LeavesEventsRecorded g course store
@@ -142,9 +147,10 @@ module _ {D : Type 0} (g : disk.Ghosts D) where
     pub left : course.left ≡ store ∷ []
     pub devices : new ≡ store.devices
     pub began : WasOpened settings.frames course new
-    pub cause : IsServingFault g old course.moments store course.taken calls_old calls_new r
+    pub cause : IsServingFault g old (moments_of course.steps) store course.taken calls_old calls_new r
     pub accounts : IsAccounted settings course
-    pub served : IsTrue g.is_honest → Served old course.moments new (live g store)
+    pub served : IsTrue g.is_honest → Served old (moments_of course.steps) new (live g store)
+    pub driven : LeavesRun course store
     pub wrote : TookFront calls_old calls_new (serving_by settings store)
     pub acked : LeavesAcksDurable g course store
 

@@ -5,12 +5,13 @@ use Rattle.hg_model.specs.declared.verdict.Refusal.TheVariants.{Broken, DeviceFa
 use Rattle.hg_disk.specs.declared.disk.Disk as disk
 use Rattle.hg_store.specs.declared.devices.Devices.{Devices}
 use Rattle.hg_store.specs.Images.{failures_of}
+use Rattle.hg_store.specs.Runs.{Made}
 use Rattle.hg_store.specs.Shown.{ShownStore, live, saved}
 use Rattle.hg_store.specs.Store.{Backs}
 use Rattle.hg_streams.specs.Calls.{failed_writes}
 use Rattle.hg_streams.specs.Faults.{HasWriteCause}
 use Rattle.hg_streams.specs.declared.call.WriteCall.{WriteCall}
-use Rattle.hg_desk.specs.Going.{Began, LeadsTo, WentOn}
+use Rattle.hg_desk.specs.Going.{Began, LeadsTo, RanFrom, WentOn}
 use Rattle.hg_server.specs.declared.fault.ServingFault.{ServingFault}
 use Rattle.hg_server.specs.declared.fault.ServingFault.TheVariants as fault
 use Rattle.hg_server.specs.declared.handing.Taken.{Taken}
@@ -25,6 +26,10 @@ module _ {D : Type 0} (g : disk.Ghosts D) where
   -- If the store `s` went on from its opening, so did the store `t` after it.
   abbrev pub StillWentOn : List (Devices D) → ShownStore D → List (Devices D) → ShownStore D → Type 0
   StillWentOn moments s later t = (start : Began) → WentOn g start moments s → WentOn g start later t
+
+  -- If these steps led to the store `s` from its opening, so did the later ones to the store `t` after it.
+  abbrev pub StillRan : List (Made D) → ShownStore D → List (Made D) → ShownStore D → Type 0
+  StillRan steps s later t = (start : Began) → RanFrom g start steps s → RanFrom g start later t
 
   -- Over honest devices what was durable stays so: accepted events lead from the durable content to that of the store `t` after it.
   abbrev pub KeepsDurable : (s t : ShownStore D) → Type 0

@@ -5,8 +5,8 @@ ghost use Rattle.std.specs.Prelude.{◌≡◌, ◌∷◌, []};
 use crate::handing::{Cut, Taken};
 use crate::seen::Seen;
 use crate::talks::Records;
-use hg_desk::moment::Moment;
 use hg_disk::Disk;
+use hg_store::made::MadeStep;
 use hg_store::store::Store;
 use hg_trail::Trail;
 
@@ -15,8 +15,8 @@ use hg_trail::Trail;
 pub struct Course<D: Disk> {
     /// The store as it was when it was opened, if it was. Contracts alone see it.
     pub opened: Trail<Seen<D>>,
-    /// The moments since the opening, the newest first, which contracts alone see.
-    pub moments: Trail<Moment<D>>,
+    /// The steps of the store since the opening, the newest first, which contracts alone see.
+    pub steps: Trail<MadeStep<D>>,
     /// What was read and written in the conversations of each worker, if its share was taken in. Contracts alone see it.
     pub talks: Records,
     /// The store as it was at the end, if one was opened. Contracts alone see it.
@@ -32,7 +32,7 @@ impl<D: Disk> Course<D> {
     {
         Course {
             opened: Trail::new(),
-            moments: Trail::new(),
+            steps: Trail::new(),
             talks: Records::new(),
             left: Trail::new(),
             taken: Taken::lacking(Cut::Unready),
@@ -42,13 +42,13 @@ impl<D: Disk> Course<D> {
     /// That of a server that opened a store, and left one.
     pub(crate) fn between(
         opened: Seen<D>,
-        moments: Trail<Moment<D>>,
+        steps: Trail<MadeStep<D>>,
         talks: Records,
         store: &Store<D>,
         taken: Taken,
     ) -> Course<D>
         ensures opened { result.opened ≡ opened ∷ [] }
-        ensures moments { result.moments ≡ moments }
+        ensures steps { result.steps ≡ steps }
         ensures talks { result.talks ≡ talks }
         ensures left { result.left ≡ store.now ∷ [] }
         ensures taken { result.taken ≡ taken }
@@ -59,7 +59,7 @@ impl<D: Disk> Course<D> {
         left.push(Seen::of(store));
         Course {
             opened: all,
-            moments,
+            steps,
             talks,
             left,
             taken,

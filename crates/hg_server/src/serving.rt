@@ -8,7 +8,7 @@ ghost use Rattle.hg_streams.specs.Printed.{IsPrintedNow};
 ghost use Rattle.hg_streams.specs.Written.{Took};
 ghost use Rattle.hg_store.specs.Limits.{IsFrameCount};
 ghost use Rattle.hg_desk.specs.Blanks.{IsBlankOf};
-ghost use Rattle.hg_desk.specs.Going.{WentOn, WentOnSince, began};
+ghost use Rattle.hg_desk.specs.Going.{RanFrom, RanSince, WentOn, WentOnSince, began, moments_of};
 ghost use Rattle.hg_desk.specs.Told.{nothing_told};
 ghost use Rattle.hg_server.specs.Acknowledged.{AcksAreDurable, BackAreRecorded, BackAreTold, EachLedFromNothing, EventsAreRecorded, HasEventsOf, LedFromNothing, TalksAreDurable, share_of, talks_of};
 ghost use Rattle.hg_server.specs.Recording.{Accounts, held_in};
@@ -31,13 +31,13 @@ use crate::starting::can_start;
 use crate::talks::{Records, Talks};
 use crate::worker::{Gate, Seat, worker};
 use crossbeam_channel::Sender;
-use hg_desk::moment::Moment;
 use hg_desk::share::{Column, Opening, Share};
 use hg_desk::shared::{Shared, TakenIn, gather};
 use hg_disk::Disk;
 use hg_model::verdict::Refusal;
 use hg_receipts::Blank as BlankRegister;
 use hg_store::devices::{Caps, Devices};
+use hg_store::made::MadeStep;
 use hg_store::store::Store;
 use hg_streams::output::{Output, Outputs};
 use hg_streams::printing::{print_now, print_number};
@@ -222,7 +222,8 @@ fn take_in<D: Disk, A: Opening, B: Column>(
 ) -> (TakenIn<D>, Records, Taken)
     requires told { BackAreTold ⟦<D as Disk>⟧ A.start back }
     requires recorded { BackAreRecorded ⟦<D as Disk>⟧ A.start back }
-    ensures since { WentOnSince ⟦<D as Disk>⟧ A.start result.0.moments result.0.store }
+    ensures since { WentOnSince ⟦<D as Disk>⟧ A.start (moments_of result.0.steps) result.0.store }
+    ensures ran { RanSince ⟦<D as Disk>⟧ A.start result.0.steps result.0.store }
     ensures durable { IsTrue D.is_honest → TalksAreDurable ⟦<D as Disk>⟧ A.start (saved ⟦<D as Disk>⟧ result.0.store) result.1 }
     ensures accounts { Accounts connections (held_in result.1) result.2.count result.2.cut }
     ensures recorded { IsTrue D.is_honest
@@ -248,8 +249,8 @@ fn take_in<D: Disk, A: Opening, B: Column>(
 #[derive(Drop)]
 struct Service<D: Disk, E> {
     store: Store<D>,
-    /// The moments since the opening, the newest first, which contracts alone see.
-    moments: Trail<Moment<D>>,
+    /// The steps of the store since the opening, the newest first, which contracts alone see.
+    steps: Trail<MadeStep<D>>,
     /// The conversations of each worker whose share was taken in, which contracts alone see.
     talks: Records,
     /// How many connections workers took, and what cut that short, if something did.
@@ -286,7 +287,8 @@ fn serve_by<
     requires opening { ((live ⟦<D as Disk>⟧ store).events ≡ A.opening) × (store.durable ≡ B.opening) }
     requires start { A.start ≡ Some (began ⟦<D as Disk>⟧ store) }
     requires settled { IsSettled ⟦<D as Disk>⟧ store }
-    ensures went { WentOn ⟦<D as Disk>⟧ (began ⟦<D as Disk>⟧ store) result.moments result.store }
+    ensures went { WentOn ⟦<D as Disk>⟧ (began ⟦<D as Disk>⟧ store) (moments_of result.steps) result.store }
+    ensures ran { RanFrom ⟦<D as Disk>⟧ (began ⟦<D as Disk>⟧ store) result.steps result.store }
     ensures settled { OnOk result.ended (IsSettled ⟦<D as Disk>⟧ result.store) }
     ensures taken { OnOk result.ended (result.taken.cut ≡ None) }
     ensures accounts { AccountsFor ⟦<D as Disk>⟧ door.now.settings result }
@@ -302,7 +304,7 @@ fn serve_by<
         Err((store, _, _, _)) => {
             return Service {
                 store,
-                moments: Trail::new(),
+                steps: Trail::new(),
                 talks: Records::new(),
                 taken: Taken::lacking(Cut::Unrecorded),
                 ended: Err(ServingFault::OutOfMemory),
@@ -313,12 +315,12 @@ fn serve_by<
     let (back, talks, taken) = take_in(back, shared, taken, door.settings.connections);
     let TakenIn {
         mut store,
-        mut moments,
+        mut steps,
     } = back;
-    let ended = settle(&mut store, &mut moments, &taken);
+    let ended = settle(&mut store, &mut steps, &taken);
     Service {
         store,
-        moments,
+        steps,
         talks,
         taken,
         ended,
@@ -402,7 +404,8 @@ fn serve_and_print<
     output: &mut Output<W>,
 ) -> Service<D, Refusal>
     requires settled { IsSettled ⟦<D as Disk>⟧ store }
-    ensures went { WentOn ⟦<D as Disk>⟧ (began ⟦<D as Disk>⟧ store) result.moments result.store }
+    ensures went { WentOn ⟦<D as Disk>⟧ (began ⟦<D as Disk>⟧ store) (moments_of result.steps) result.store }
+    ensures ran { RanFrom ⟦<D as Disk>⟧ (began ⟦<D as Disk>⟧ store) result.steps result.store }
     ensures settled { OnOk result.ended (IsSettled ⟦<D as Disk>⟧ result.store) }
     ensures printed { PrintsAllOnOk ⟦<D as Disk>⟧ door.now.settings result.store output.old output.new result.ended }
     ensures front { PrintsFrontOnErr ⟦<D as Disk>⟧ door.now.settings result.store output.old output.new result.ended }
@@ -417,7 +420,7 @@ fn serve_and_print<
         Err(refusal) => {
             return Service {
                 store,
-                moments: Trail::new(),
+                steps: Trail::new(),
                 talks: Records::new(),
                 taken: Taken::lacking(Cut::Unready),
                 ended: Err(refusal),
@@ -427,7 +430,7 @@ fn serve_and_print<
     let threads = u64::from(door.settings.workers) + 1;
     let Service {
         store,
-        moments,
+        steps,
         talks,
         taken,
         ended,
@@ -446,7 +449,7 @@ fn serve_and_print<
             let ended = print_end(alloc, &store, door.settings, output);
             Service {
                 store,
-                moments,
+                steps,
                 talks,
                 taken,
                 ended,
@@ -454,7 +457,7 @@ fn serve_and_print<
         }
         Err(fault) => Service {
             store,
-            moments,
+            steps,
             talks,
             taken,
             ended: Err(Refusal::from(fault)),
@@ -486,12 +489,12 @@ fn recover_and_serve<
     let opened = Seen::of(&store);
     let Service {
         store,
-        moments,
+        steps,
         talks,
         taken,
         ended,
     } = serve_and_print(rt, alloc, store, door, output);
-    let course = Course::between(opened, moments, talks, &store, taken);
+    let course = Course::between(opened, steps, talks, &store, taken);
     match ended {
         Ok(()) => (Ok(store), course),
         Err(refusal) => (Err((refusal, store.into_devices())), course),
@@ -515,7 +518,8 @@ pub struct Outcome<D: Disk> {
 /// which is told among the faults. A connection that fails ends alone. Whatever ends it, no durable event is lost, and each image between two
 /// neighbouring moments has a front of the accepted events. All of them are durable unless a device failed. What each Ack in the conversations of
 /// `course` told a client is durable, whatever ended it. At status 0 each event that was accepted since the opening was accepted in these
-/// conversations. The store is opened with the frames of the settings and the greatest caps.
+/// conversations. What was done to the store is a run of its steps, which `course` has. The store is opened with the frames of the settings and
+/// the greatest caps.
 ///
 /// It waits until so many connections were served.
 pub fn serve<

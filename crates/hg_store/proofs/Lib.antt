@@ -12,6 +12,7 @@ pub mod Reading
 pub mod Recovering
 pub mod Runs
 pub mod Stepping
+pub mod Driven
 pub mod Opening
 pub mod Turning
 pub mod Freezing

@@ -174,7 +174,7 @@ module _ {D : Type 0} (g : disk.Ghosts D) where
     abbrev pub Leaves : Type 0
     Leaves = EachImage g s.devices new.devices (Stands (saved g s) (live g s) (in_doubt_during step s.in_doubt))
 
-    drive_more : (old : ShownStore D) (steps : List Step) (told : Told D) → DriveDone g old s steps told → StepDone g s new step result → ContentDone g s new step result → Backs g new → Leaves
+    pub drive_more : (old : ShownStore D) (steps : List Step) (told : Told D) → DriveDone g old s steps told → StepDone g s new step result → ContentDone g s new step result → Backs g new → Leaves
         → DriveDone g old new (steps ++ step ∷ []) (told ++ (s, result) ∷ [])
     drive_more old steps told so_far done content backed leaves =
         let start : Content = saved g old in

@@ -25,7 +25,7 @@ module _ {D : Type 0} (g : disk.Ghosts D) (s new : ShownStore D) (step : Step) (
     leads_more steps told leads.2 done failed,
   )
 
-  steps_more : (old : ShownStore D) (steps : List Step) (told : Told D) → StepsDone g old s steps told → StepDone g s new step result → failures_of g new.devices ≡ fails_by result (failures_of g s.devices)
+  pub steps_more : (old : ShownStore D) (steps : List Step) (told : Told D) → StepsDone g old s steps told → StepDone g s new step result → failures_of g new.devices ≡ fails_by result (failures_of g s.devices)
       → StepsDone g old new (steps ++ step ∷ []) (told ++ (s, result) ∷ [])
   steps_more old steps told so_far done failed = record { first = begins_more told ∙ so_far.first; each = leads_more steps told so_far.each done failed }
 

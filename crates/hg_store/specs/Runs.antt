@@ -1,5 +1,5 @@
 -- Runs of steps with their answers.
-use Rattle.std.specs.Prelude.{◌≡◌, ◌++◌, ◌||◌, ℕ, List, [], ◌∷◌, length, Bool, true, false, Some, Ok, Err, Result, Vec, cond, map}
+use Rattle.std.specs.Prelude.{◌≡◌, ◌++◌, ◌||◌, ℕ, List, [], ◌∷◌, length, Bool, true, false, IsTrue, Some, Ok, Err, Result, Vec, cond, map}
 use Rattle.hg_model.specs.declared.verdict.Refusal.{Refusal}
 use Rattle.hg_model.specs.declared.verdict.Refusal.TheVariants.{Broken, DeviceFault}
 use Rattle.hg_model.specs.Contents.{Content}
@@ -8,7 +8,7 @@ use Rattle.hg_disk.specs.declared.disk.Disk as disk
 use Rattle.hg_contents.specs.Runs.{Run, accepted}
 use Rattle.hg_images.specs.Runs.{StandsFor}
 use Rattle.hg_checkpoint.specs.declared.cause.Cause.TheVariants as cause
-use Rattle.hg_store.specs.Doing.{ContentDone, StepDone, Tells, fails_by, in_doubt_during}
+use Rattle.hg_store.specs.Doing.{ContentDone, StandDuring, StepDone, Tells, fails_by, in_doubt_during}
 use Rattle.hg_store.specs.Images.{EachImage, failures_of}
 use Rattle.hg_store.specs.Shown.{ShownStore, live, saved}
 use Rattle.hg_store.specs.Steps.{OfferAnswers, if_accepted}
@@ -132,3 +132,37 @@ module _ {D : Type 0} (g : disk.Ghosts D) where
   -- On any devices the steps, and then the last one, were answered so.
   abbrev pub HasStepped : {Z : Type 0} → (old new : ShownStore D) → List Step → Step → Vec (StepAnswer D) Z → Type 0
   HasStepped old new done last answers = StepsDone g old new (done ++ last ∷ []) (told_of answers.items)
+
+-- A step that was made: the store when it began, and its answer.
+pub record Made (D : Type 0) : Type 0 where
+  pub began : ShownStore D
+  pub step : Step
+  pub answer : StepResult
+
+abbrev pub made : {D : Type 0} → ShownStore D → Step → StepResult → Made D
+made began step answer = record { began = began; step = step; answer = answer }
+
+-- the steps of a list that has the newest one first, in the order in which they were made
+abbrev pub steps_of : {D : Type 0} → List (Made D) → List Step
+steps_of [] = []
+steps_of (m ∷ earlier) = steps_of earlier ++ m.step ∷ []
+
+-- what they were told, in that order
+abbrev pub told_to : {D : Type 0} → List (Made D) → Told D
+told_to [] = []
+told_to (m ∷ earlier) = told_to earlier ++ (m.began, m.answer) ∷ []
+
+module _ {D : Type 0} (g : disk.Ghosts D) where
+  -- One step of a store is made: what it does and answers, and how many device calls fail in it; over honest devices also its
+  -- content, and what each image has meanwhile.
+  pub record Makes (old new : ShownStore D) (step : Step) (answer : StepResult) : Type 0 where
+    pub done : StepDone g old new step answer
+    pub failures : failures_of g new.devices ≡ fails_by answer (failures_of g old.devices)
+    pub content : IsTrue g.is_honest → ContentDone g old new step answer
+    pub images : IsTrue g.is_honest → StandDuring g step old new
+
+  -- These steps, the newest first, were made from the first store to the one now. Each leads from the store when it began to the
+  -- store when the next one began, or to the one now.
+  abbrev pub MadeAlong : ShownStore D → List (Made D) → ShownStore D → Type 0
+  MadeAlong first [] now = now ≡ first
+  MadeAlong first (m ∷ earlier) now = Makes m.began now m.step m.answer × (IsTrue g.is_honest → Backs g now) × MadeAlong first earlier m.began

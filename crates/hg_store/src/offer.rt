@@ -23,7 +23,7 @@ use hg_records::record::records_fit;
 
 /// The event of a read or a write under the number that its source gave it.
 #[inline(always)]
-fn named_access(source: u16, number: u64, access: Access, write: bool) -> Named
+pub fn named_access(source: u16, number: u64, access: Access, write: bool) -> Named
     ensures { result ≡ access_named source number write access }
 {
     let event = match write {
@@ -39,7 +39,7 @@ fn named_access(source: u16, number: u64, access: Access, write: bool) -> Named
 
 /// The event on a lock under the number that its source gave it.
 #[inline(always)]
-fn named_hold(source: u16, number: u64, hold: Hold) -> Named
+pub fn named_hold(source: u16, number: u64, hold: Hold) -> Named
     ensures { result ≡ hold_named source number hold }
 {
     let event = hold.event();

@@ -284,7 +284,7 @@ fn take_in<A: Opening, B: Column>(
     };
     match gather(shares, shared) {
         Ok(taken_in) => {
-            let TakenIn { store, moments: _ } = taken_in;
+            let TakenIn { store, steps: _ } = taken_in;
             put_store(alloc, store, out);
         }
         Err((_, _, tally)) => put_tally(&tally, out),

@@ -15,7 +15,7 @@ use Rattle.hg_commands.specs.FeedRunning.{FeedDone, WasFed}
 use Rattle.hg_commands.specs.FeedFaults.{FeedFails, HasFeedCause}
 use Rattle.hg_commands.proofs.FeedDone.{feed_done}
 use Rattle.hg_streams.proofs.Fronts.{on_err_given}
-use Rattle.hg_commands.proofs.Kept.{fed_had_limits, fed_is_kept, none_is_kept}
+use Rattle.hg_commands.proofs.Kept.{fed_had_limits, fed_is_driven, fed_is_kept, none_is_kept}
 use Rattle.hg_commands.proofs.feeding.recover_and_feed.Goals as goal
 
 pub returns-in-Ok-clause-fed : goal.returns-in-Ok-clause-fed
@@ -100,3 +100,11 @@ returns-in-Ok-clause-limits g c honest =
 pub returns-in-Err-clause-limits : goal.returns-in-Err-clause-limits
 returns-in-Err-clause-limits g c honest =
     subst (λ (t : List (Instant g.row.D.Denot)). All (HasLimits (greatest_with c.args.settings.frames)) t) (sym c.new.ensures) (All-nil (HasLimits (greatest_with c.args.settings.frames)))
+
+pub returns-in-Ok-clause-driven : goal.returns-in-Ok-clause-driven
+returns-in-Ok-clause-driven g c =
+    fed_is_driven g.D.Disk c.args.devices c.into_devices.result c.in-Ok.store c.feed_store-end.new.self.store c.args.output.now.calls c.feed_store-end.new.output.calls c.new-moments.result c.push.new.self c.feed_store-end.new.self.moments c.of.result
+    c.in-Ok.ensures.idle c.in-Ok.ensures.files c.in-Ok.ensures.content c.feed_store-end.ensures.kept c.push.ensures c.of.ensures c.new-moments.ensures c.into_devices.ensures
+
+pub returns-in-Err-clause-driven : goal.returns-in-Err-clause-driven
+returns-in-Err-clause-driven g c = inl (c.new.ensures, refl, c.in-Err.ensures.files)

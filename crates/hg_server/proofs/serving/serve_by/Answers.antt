@@ -1,8 +1,8 @@
 use Rattle.std.proofs.Common.{◌≡◌, ◌<◌, None, Option, inr, refl, true, sym, subst}
 use Rattle.hg_store.specs.Images.{failures_of}
 use Rattle.hg_store.specs.Shown.{saved}
-use Rattle.hg_desk.specs.Going.{Began, WentOn, began}
-use Rattle.hg_desk.proofs.Going.{went_nowhere}
+use Rattle.hg_desk.specs.Going.{Began, RanFrom, WentOn, began, moments_of}
+use Rattle.hg_desk.proofs.Going.{ran_nowhere, went_nowhere}
 use Rattle.hg_server.specs.Settling.{IsSettled, SettlesOrBreaks, StopsFor}
 use Rattle.hg_server.specs.declared.fault.ServingFault.{ServingFault}
 use Rattle.hg_server.specs.declared.handing.Cut.TheVariants.{Unrecorded}
@@ -13,8 +13,18 @@ use Rattle.hg_server.proofs.serving.serve_by.Goals as goal
 
 pub returns-in-Err-clause-went : goal.returns-in-Err-clause-went
 returns-in-Err-clause-went g c =
-    subst (λ s. WentOn g.D.Disk (began g.D.Disk c.args.store) c.new.result s) (sym c.in-Err.ensures.err.0)
-    (subst (λ ms. WentOn g.D.Disk (began g.D.Disk c.args.store) ms c.args.store) (sym c.new.ensures) (went_nowhere g.D.Disk c.args.store c.requires.settled.backs))
+    subst (λ s. WentOn g.D.Disk (began g.D.Disk c.args.store) (moments_of c.new.result) s) (sym c.in-Err.ensures.err.0)
+    (subst (λ list. WentOn g.D.Disk (began g.D.Disk c.args.store) (moments_of list) c.args.store) (sym c.new.ensures) (went_nowhere g.D.Disk c.args.store c.requires.settled.backs))
+
+pub returns-in-Err-clause-ran : goal.returns-in-Err-clause-ran
+returns-in-Err-clause-ran g c =
+    subst (λ s. RanFrom g.D.Disk (began g.D.Disk c.args.store) c.new.result s) (sym c.in-Err.ensures.err.0)
+    (ran_nowhere g.D.Disk c.args.store c.new.result c.new.ensures c.requires.settled.backs)
+
+pub returns-clause-ran : goal.returns-clause-ran
+returns-clause-ran g c =
+    let start = began g.D.Disk c.args.store in
+    c.settle-ended.ensures.ran start (c.take_in-back.ensures.ran start c.requires.start)
 
 pub returns-in-Err-clause-cause : goal.returns-in-Err-clause-cause
 returns-in-Err-clause-cause g c = inr (inr (subst (λ s. IsSettled g.D.Disk s) (sym c.in-Err.ensures.err.0) c.requires.settled, (Unrecorded, c.lacking.ensures.cut, refl)))
@@ -48,8 +58,8 @@ returns-clause-cause g c =
     let mid = c.take_in-back.result.0.store in
     let new = c.settle-ended.new.store in
     let taken = c.take_in-back.result.2 in
-    let before = c.take_in-back.result.0.moments in
-    let moments = c.settle-ended.new.moments in
+    let before = moments_of c.take_in-back.result.0.steps in
+    let moments = moments_of c.settle-ended.new.steps in
     let went = c.take_in-back.ensures.since (began g.D.Disk start) c.requires.start in
     let failed : mid.is_broken ≡ true → failures_of g.D.Disk start.devices < failures_of g.D.Disk mid.devices = λ is. went.broken c.requires.settled.works is in
     if_err_weaker (SettlesOrBreaks g.D.Disk mid new taken) (StopsFor g.D.Disk start.devices moments new taken) c.settle-ended.result

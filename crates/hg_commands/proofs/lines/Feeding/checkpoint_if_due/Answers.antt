@@ -5,7 +5,8 @@ use Rattle.hg_commands.specs.Feeding.{checkpoint_text}
 use Rattle.hg_streams.specs.Printed.{IsPrintedNow}
 use Rattle.hg_streams.specs.Texts.{number_text}
 use Rattle.hg_commands.proofs.Checkpointed.{checkpointed, fault_if_due}
-use Rattle.hg_commands.proofs.Kept.{keeps_printed, keeps_then}
+use Rattle.hg_commands.specs.TakingLaws.{keeps_then}
+use Rattle.hg_commands.proofs.Kept.{keeps_printed}
 use Rattle.hg_commands.proofs.lines.Feeding.checkpoint_if_due.Goals as goal
 
 pub returns-clause-made : goal.returns-clause-made

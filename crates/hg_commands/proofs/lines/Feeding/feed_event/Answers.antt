@@ -4,7 +4,7 @@ use Rattle.hg_detect.specs.declared.detector.Answer.TheVariants.{Duplicate}
 use Rattle.hg_commands.specs.FeedRunning.{WasSent}
 use Rattle.hg_commands.specs.Offering.{event_of, reading_of}
 use Rattle.hg_commands.proofs.FeedSteps.{breaks_accepted, breaks_still, ends_refused, fault_counted, fault_is_told, passes_accepted, passes_duplicate, way_accepted, way_refused}
-use Rattle.hg_commands.proofs.Kept.{keeps_then}
+use Rattle.hg_commands.specs.TakingLaws.{keeps_then}
 use Rattle.hg_streams.proofs.Printed.{always_err}
 use Rattle.hg_commands.proofs.lines.Feeding.feed_event.Goals as goal
 

@@ -9,7 +9,8 @@ use Rattle.hg_pool.specs.Shown as pool
 use Rattle.hg_store.specs.Shown.{Progress, live}
 use Rattle.hg_commands.specs.Feeding.{feed_end_text}
 use Rattle.hg_streams.specs.Texts.{number_text}
-use Rattle.hg_commands.proofs.Kept.{keeps_printed, keeps_then}
+use Rattle.hg_commands.specs.TakingLaws.{keeps_then}
+use Rattle.hg_commands.proofs.Kept.{keeps_printed}
 use Rattle.hg_commands.proofs.FeedDone.{was_fed}
 use Rattle.hg_commands.proofs.Ways.{way_at_start, way_same}
 use Rattle.hg_commands.proofs.Checkpointed.{fault_of_due, rests_behind}

@@ -5,7 +5,10 @@ use Rattle.hg_pool.specs.Shown as pool
 use Rattle.hg_store.specs.Images.{failures_of}
 use Rattle.hg_commands.proofs.Causes.{answer_is_counted}
 use Rattle.hg_commands.proofs.Checkpointed.{retire_fails, retired_works, retires}
+use Rattle.hg_store.specs.declared.steps.Step.TheVariants as step
+use Rattle.hg_store.specs.declared.steps.StepResult.TheVariants as told
 use Rattle.hg_commands.proofs.Kept.{keeps_retired}
+use Rattle.hg_commands.proofs.Making.{makes_retire, moment_is}
 use Rattle.hg_commands.proofs.lines.Feeding.give_up.Goals as goal
 
 pub returns-clause-stays : goal.returns-clause-stays
@@ -29,5 +32,7 @@ returns-clause-cause g c = retire_fails c.args.self.now.store c.retire-retired.n
 
 pub returns-clause-kept : goal.returns-clause-kept
 returns-clause-kept g c =
-    keeps_retired g.D.Disk c.args.self.now.store c.retire-retired.new.self c.args.output.now.calls c.args.self.now.moments c.push.new.self c.of.result c.retire-retired.result
-    c.retire-retired.ensures.done c.retire-retired.ensures.images c.stands.ensures.backs c.retire-retired.ensures.limits c.push.ensures c.of.ensures
+    keeps_retired g.D.Disk c.args.self.now.store c.retire-retired.new.self c.args.output.now.calls c.args.self.now.moments c.push.new.self c.behind.result c.retire-retired.result
+    c.retire-retired.ensures.done c.retire-retired.ensures.images c.stands.ensures.backs c.retire-retired.ensures.limits c.push.ensures step.Retire (told.Retired c.retire-retired.result)
+    (moment_is c.of-began.result.value c.args.self.now.store c.retire-retired.new.self c.behind.result c.of-made.result step.Retire (told.Retired c.retire-retired.result) c.args.output.now.calls c.behind.ensures c.of-made.ensures c.of-began.ensures)
+    (makes_retire g.D.Disk c.args.self.now.store c.retire-retired.new.self c.retire-retired.result c.retire-retired.ensures.done c.retire-retired.ensures.device c.retire-retired.ensures.images)

@@ -3,8 +3,8 @@ use Rattle.hg_store.specs.Shown.{IsIn}
 use Rattle.hg_commands.proofs.Checkpointed.{step_fails, stepped_roots, works_in}
 use Rattle.hg_commands.proofs.lines.Feeding.prepare.Goals as goal
 
-pub note_step-requires : goal.note_step-requires
-note_step-requires g c =
+pub note_step-requires-clause-stepped : goal.note_step-requires-clause-stepped
+note_step-requires-clause-stepped g c =
     stepped_roots g.D.Disk c.of-began.result.value c.args.self.now.store c.prepare_root-done.new.self c.prepare_root-done.result c.of-began.ensures c.prepare_root-done.ensures.slots c.prepare_root-done.ensures.done.committed c.prepare_root-done.ensures.done.pending
     c.prepare_root-done.ensures.device (λ honest. c.prepare_root-done.ensures.images honest)
 

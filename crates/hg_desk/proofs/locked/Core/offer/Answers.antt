@@ -1,4 +1,5 @@
-use Rattle.std.proofs.Common.{rules, ◌≡◌, ◌+◌, ℕ, ap, refl, subst, ◌∙◌, arith}
+use Rattle.std.proofs.Common.{rules, ◌≡◌, ◌∷◌, ◌+◌, ℕ, ap, refl, subst, ◌∙◌, arith}
+use Rattle.hg_store.specs.Runs.{Made, made}
 use Rattle.hg_store.specs.Shown.{ShownStore}
 use Rattle.hg_store.specs.declared.steps.Step.TheVariants.{Offer}
 use Rattle.hg_store.specs.declared.steps.StepResult.TheVariants.{Offered}
@@ -14,10 +15,11 @@ module _ (g : given.Over) (c : goal.After-note_accepted g) where
     done = (c.offer_to-answer.result, refl, c.offer_to-answer.ensures.done);
     content = λ honest. (c.offer_to-answer.result, refl, c.offer_to-answer.ensures.content honest);
     device = c.offer_to-answer.ensures.device;
-    backs = λ honest. c.note_moment-before.ensures.backs honest;
+    backs = λ honest. c.durable_before-_before.ensures.backs honest;
+    backs_then = λ honest. c.stands.ensures.backs honest;
     images = λ honest. c.offer_to-answer.ensures.images honest;
-    count = λ honest. c.note_moment-before.ensures.count honest;
-    all = λ works. c.note_moment-before.ensures.events works;
+    count = λ honest. c.durable_before-_before.ensures.count honest;
+    all = λ works. c.durable_before-_before.ensures.events works;
     more = λ works. search rules;
   }
 
@@ -28,11 +30,11 @@ module _ (g : given.Over) (c : goal.After-note_accepted g) where
 pub invariant_of-self : goal.invariant_of-self
 invariant_of-self g c =
     core_after g.D.Disk g.A.Opening.start g.A.Column.opening g.B.Column.opening c.self.inside.store c.offer_to-answer.new.store (Offer c.args.named.now) (Offered c.offer_to-answer.result) (steps g c)
-    c.self.inside.accepted.total c.self.inside.durable.total c.self.inside.accepted_count c.self.inside.durable_count c.self.inside.moments c.self.inside.acks c.self.invariant
-    c.note_moment-before.result c.note_moment-before.ensures.durable
-    c.note_accepted.new.book.total c.self.inside.durable.total c.note_accepted.new.count c.self.inside.durable_count c.note_moment-before.new.moments
+    c.self.inside.accepted.total c.self.inside.durable.total c.self.inside.accepted_count c.self.inside.durable_count c.self.inside.steps c.self.inside.acks c.self.invariant
+    c.durable_before-_before.result c.durable_before-_before.ensures.durable
+    c.note_accepted.new.book.total c.self.inside.durable.total c.note_accepted.new.count c.self.inside.durable_count c.push.new.self
     (c.note_accepted.ensures.book ∙ ap (λ (n : ℕ). c.self.inside.accepted.total + fitting c.self.inside.accepted.total n) c.accepted_by_offer.ensures)
-    (none g c c.self.inside.durable.total) c.note_accepted.ensures.count c.self.invariant.durable_counted c.note_moment-before.ensures.moments
+    (none g c c.self.inside.durable.total) c.note_accepted.ensures.count c.self.invariant.durable_counted (c.push.ensures ∙ ap (λ (m : Made g.row.D.Denot). m ∷ c.self.inside.steps) (c.of-made.ensures ∙ ap (λ (s : ShownStore g.row.D.Denot). made s (Offer c.args.named.now) (Offered c.offer_to-answer.result)) c.of-began.ensures))
 
 pub returns : goal.returns
 returns g c =
@@ -47,6 +49,6 @@ returns g c =
     let four : c.note_accepted.new.share.steps ≡ c.args.share.now.steps = ap (λ (t : Told). t.steps) c.note_accepted.ensures.share in
     let kept : StepKept g.D.Disk old new c.args.share.now c.note_accepted.new.share (Offer c.args.named.now) result =
     kept_on g.D.Disk g.A.Opening.start g.A.Column.opening g.B.Column.opening old new (Offer c.args.named.now) result (steps g c)
-    c.self.inside.accepted.total c.self.inside.durable.total c.self.inside.accepted_count c.self.inside.durable_count c.self.inside.moments c.self.inside.acks c.self.invariant
-    c.note_moment-before.result c.note_moment-before.ensures.durable c.args.share.now c.note_accepted.new.share one two three four in
+    c.self.inside.accepted.total c.self.inside.durable.total c.self.inside.accepted_count c.self.inside.durable_count c.self.inside.steps c.self.inside.acks c.self.invariant
+    c.durable_before-_before.result c.durable_before-_before.ensures.durable c.args.share.now c.note_accepted.new.share one two three four in
     subst (λ (s : ShownStore g.row.D.Denot). StepKept g.D.Disk s new c.args.share.now c.note_accepted.new.share (Offer c.args.named.now) result) c.self.view_is kept

@@ -1,9 +1,10 @@
-use Rattle.std.proofs.Common.{rules, ◌≡◌, List, [], ◌∷◌, Option, IfSome, sym, subst, arith}
+use Rattle.std.proofs.Common.{rules, ◌≡◌, List, [], ◌∷◌, Option, IfSome, refl, sym, subst, arith}
 use Rattle.std.proofs.lemmas.List.Elements.{All-append, All-cons}
 use Rattle.hg_receipts.specs.Receipts.{Has}
 use Rattle.hg_receipts.specs.declared.view.Acked.{Acked}
+use Rattle.hg_store.specs.Runs.{MadeAlong}
 use Rattle.hg_desk.specs.Told.{Told, nothing_told}
-use Rattle.hg_desk.specs.Going.{Began, WentOn, began}
+use Rattle.hg_desk.specs.Going.{Began, WentOn, began, moments_of}
 use Rattle.hg_desk.proofs.Going.{went_nowhere}
 use Rattle.hg_desk.proofs.locked.Core.open.Goals as goal
 
@@ -31,6 +32,13 @@ invariant_of-core g c = record {
   since = λ start is.
       let same : start ≡ began g.D.Disk c.args.store = subst (λ (o : Option Began). IfSome o (λ s. s ≡ began g.D.Disk c.args.store)) is c.requires.start in
       let here : WentOn g.D.Disk (began g.D.Disk c.args.store) [] c.args.store = went_nowhere g.D.Disk c.args.store c.stands.ensures.backs in
-      subst (λ s. WentOn g.D.Disk s c.new.result c.args.store) (sym same) (subst (λ ms. WentOn g.D.Disk (began g.D.Disk c.args.store) ms c.args.store) (sym c.new.ensures) here);
+      subst (λ s. WentOn g.D.Disk s (moments_of c.new.result) c.args.store) (sym same)
+      (subst (λ list. WentOn g.D.Disk (began g.D.Disk c.args.store) (moments_of list) c.args.store) (sym c.new.ensures) here);
+  ran = λ start is. record {
+    first = c.args.store;
+    is_start = sym (subst (λ (o : Option Began). IfSome o (λ s. s ≡ began g.D.Disk c.args.store)) is c.requires.start);
+    backs = c.stands.ensures.backs;
+    along = subst (λ list. MadeAlong g.D.Disk c.args.store list c.args.store) (sym c.new.ensures) refl;
+  };
   acked = λ honest entry has. absurd (subst (λ (l : List Acked). Has l entry) c.loop-i.invariant.acks has);
 }

@@ -2,7 +2,7 @@ use Rattle.std.proofs.Common.{rules, ◌≡◌, ◌∙◌, ◌∷◌, inl, inr, 
 use Rattle.hg_store.specs.declared.steps.StepFault.{StepFault}
 use Rattle.hg_store.specs.declared.steps.Step.TheVariants.{Freeze}
 use Rattle.hg_store.specs.declared.steps.StepResult.TheVariants.{Frozen}
-use Rattle.hg_desk.specs.Told.{FreezesBehind, Made, by_freeze}
+use Rattle.hg_desk.specs.Told.{FreezesBehind, Listed, by_freeze}
 use Rattle.hg_desk.proofs.tasks.BeginTaskTask.run.Goals as goal
 
 pub returns-in_err-count-clause-steps : goal.returns-in_err-count-clause-steps
@@ -31,12 +31,12 @@ pub returns-in_err-freeze-clause-promise : goal.returns-in_err-freeze-clause-pro
 returns-in_err-freeze-clause-promise g c = (
   search rules,
   search rules,
-  inr (c.freeze.result, c.freeze.ensures.steps ∙ ap (λ (l : List Made). record { step = Freeze; result = Frozen c.freeze.result } ∷ l) c.commit.ensures.1.steps),
+  inr (c.freeze.result, c.freeze.ensures.steps ∙ ap (λ (l : List Listed). record { step = Freeze; result = Frozen c.freeze.result } ∷ l) c.commit.ensures.1.steps),
 )
 
 pub returns-clause-promise : goal.returns-clause-promise
 returns-clause-promise g c = (
   search rules,
   search rules,
-  inr (c.freeze.result, c.freeze.ensures.steps ∙ ap (λ (l : List Made). record { step = Freeze; result = Frozen c.freeze.result } ∷ l) c.commit.ensures.1.steps),
+  inr (c.freeze.result, c.freeze.ensures.steps ∙ ap (λ (l : List Listed). record { step = Freeze; result = Frozen c.freeze.result } ∷ l) c.commit.ensures.1.steps),
 )
