@@ -148,7 +148,8 @@ module _ {D R V : Type 0} (g : disk.Ghosts D) where
   AcksAreKept settings devices first now before after result =
       IsTrue g.is_honest → EachAckIsKept g settings.source first.calls now.calls (instant devices before.calls) result.2 (instant result.1 after.calls)
 
-  -- What its moments tell of is a run of the store's steps.
+module _ {D V : Type 0} (g : disk.Ghosts D) where
+  -- What the moments of recovering a store and feeding it tell of is a run of the store's steps.
   abbrev pub MomentsAreRun : Devices D → Outgoing V → Outgoing V → Recovered D → Type 0
   MomentsAreRun devices before after result = WasDriven g devices before.calls result.2 result.1 after.calls
 

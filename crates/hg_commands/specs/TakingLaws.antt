@@ -77,7 +77,7 @@ module _ {D : Type 0} (g : disk.Ghosts D) where
     };
     cause = λ x is. absurd (passed x is);
     failures = omega arith;
-    kept = keeps_still g p.store p.output moments;
+    kept = keeps_still p.store p.output moments;
   }
 
   pub takes_on : (a b c : Place D) (at_a at_b at_c : List (Instant D)) (first later : List Reading) (r : Result (Option Ending) Refusal)
@@ -106,7 +106,7 @@ module _ {D : Type 0} (g : disk.Ghosts D) where
         };
     cause = t.cause;
     failures = omega (arith, s.failures, t.failures);
-    kept = keeps_then g a.store b.store c.store a.output b.output c.output at_a at_b at_c s.kept t.kept;
+    kept = keeps_then a.store b.store c.store a.output b.output c.output at_a at_b at_c s.kept t.kept;
   }
 
   pub takes_room : (a b : Place D) (at_a at_b : List (Instant D)) (first : List Reading) (n : ℕ) → MayTake a (length first + n) → FeedsLines g a at_a first (Ok None) b at_b → MayTake b n

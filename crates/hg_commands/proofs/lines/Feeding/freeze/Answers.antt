@@ -1,4 +1,4 @@
-use Rattle.std.proofs.Common.{ap, subst, sym, ◌∙◌}
+use Rattle.std.proofs.Common.{ap, refl, subst, sym, ◌∙◌}
 use Rattle.std.proofs.lemmas.Result.{IfErr-weaker}
 use Rattle.hg_checkpoint.specs.declared.phase.Phase.TheVariants.{Flushing}
 use Rattle.hg_store.specs.Shown.{ShownStore}
@@ -6,7 +6,31 @@ use Rattle.hg_store.specs.declared.devices.Devices.{Devices}
 use Rattle.hg_commands.specs.FeedFaults.{IsCheckpointFault, IsToldBy}
 use Rattle.hg_commands.proofs.Checkpointed.{freeze_fails, works_in}
 use Rattle.hg_commands.proofs.GivingUp.{turned_by}
+use Rattle.hg_store.specs.Runs.{Makes}
+use Rattle.hg_store.specs.declared.steps.Step.TheVariants as step
+use Rattle.hg_store.specs.declared.steps.StepResult.TheVariants as told
 use Rattle.hg_commands.proofs.lines.Feeding.freeze.Goals as goal
+
+pub note_step-requires-clause-made : goal.note_step-requires-clause-made
+note_step-requires-clause-made g c =
+    let e = c.freeze-done.ensures in
+    let r = c.freeze-done.result in
+    subst (λ (s : ShownStore g.row.D.Denot). Makes g.D.Disk s c.freeze-done.new.self step.Freeze (told.Frozen r)) (sym c.of-began.ensures) (record {
+      done = (r, refl, record {
+        done = e.done;
+        last = e.last;
+        number = e.number;
+        frozen = e.frozen;
+        turned = e.turned;
+        current = e.current;
+        counted = e.counted;
+        slots = e.slots;
+        roots = e.roots;
+      });
+      failures = e.device;
+      content = λ honest. (r, refl, record { live = e.live honest; undamaged = e.undamaged honest });
+      images = λ honest. e.images honest;
+    })
 
 pub returns-clause-begun : goal.returns-clause-begun
 returns-clause-begun g c =
