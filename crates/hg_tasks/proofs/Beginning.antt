@@ -21,15 +21,15 @@ use Rattle.hg_tasks.specs.Explaining.{HasDisks, IsNotBegun, WereRead, disks_of}
 pub has_room : (d : Detector PagedWords) → IsNumbered (content_of d) → HasRoom d
 has_room d few = let last = few.last 0 in let most = few.events in omega (arith, last, most)
 
-module _ {D : Type 0} (g : disk.Ghosts D) (devices left : Devices D) (disks : CheckpointDisks D) (slots : Stays g devices.slots disks.slots) (first : WasRead g devices.root0 disks.root0) (second : WasRead g devices.root1 disks.root1) where
+module _ {D : Type 0} (g : disk.Ghosts D) (devices : Devices D) (disks : CheckpointDisks D) (slots : Stays g devices.slots disks.slots) (first : WasRead g devices.root0 disks.root0) (second : WasRead g devices.root1 disks.root1) where
   -- the slots and the roots were read
   pub were_read : (read : Devices D) → HasDisks devices.journal0 devices.journal1 disks read → WereRead g devices read
   were_read read are = record { disks = disks; slots = slots; first = first; second = second; are = are }
 
   -- The content was not had.
-  pub not_saved : (r : Refusal) → IsOfRoots r → (IsTrue g.is_honest → r ≡ Damaged → HasNoneSaved g (disks_of devices)) → CountedBy r (failures g (disks_of devices)) (failures g disks)
+  pub not_saved : (left : Devices D) (r : Refusal) → IsOfRoots r → (IsTrue g.is_honest → r ≡ Damaged → HasNoneSaved g (disks_of devices)) → CountedBy r (failures g (disks_of devices)) (failures g disks)
       → HasDisks devices.journal0 devices.journal1 disks left → IsNotBegun g devices left r
-  not_saved r is damaged failed are = inl (record {
+  not_saved left r is damaged failed are = inl (record {
     is = is;
     damaged = damaged;
     failed = subst (λ (d : Devices D). CountedBy r (failures g (disks_of devices)) (failures g (disks_of d))) (sym are) failed;
@@ -37,9 +37,9 @@ module _ {D : Type 0} (g : disk.Ghosts D) (devices left : Devices D) (disks : Ch
   })
 
   -- It was, and the store was not opened.
-  pub not_opened : (r : Refusal) (read : Devices D) → HasDisks devices.journal0 devices.journal1 disks read → failures g disks ≡ failures g (disks_of devices) → IsNotOpened g read left r
+  pub not_opened : (left : Devices D) (r : Refusal) (read : Devices D) → HasDisks devices.journal0 devices.journal1 disks read → failures g disks ≡ failures g (disks_of devices) → IsNotOpened g read left r
       → IsNotBegun g devices left r
-  not_opened r read are none refused = inr (record {
+  not_opened left r read are none refused = inr (record {
     read = read;
     were_read = were_read read are;
     none_failed = subst (λ (d : Devices D). failures g (disks_of d) ≡ failures g (disks_of devices)) (sym are) none;

@@ -71,9 +71,9 @@ TellsFault fault before after status =
     (status ≡ 3) × IsTold before.faults.calls after.faults.calls (refusal_of_migration fault) × (after.output ≡ before.output)
 
 -- It was printed that a new file is open; or another fault was told.
-abbrev pub SaysWhy : {W V : Type 0} → MigrationFault → Outputs W V → Outputs W V → ℕ → Type 0
-SaysWhy NotEmpty before after status = Answers (codes "not empty" ++ 10 ∷ []) 2 before after status
-SaysWhy fault before after status = TellsFault fault before after status
+pub record SaysWhy {W V : Type 0} (fault : MigrationFault) (before after : Outputs W V) (status : ℕ) : Type 0 where
+  pub not_empty : fault ≡ NotEmpty → Answers (codes "not empty" ++ 10 ∷ []) 2 before after status
+  pub other : fault ≢ NotEmpty → TellsFault fault before after status
 
 module _ {D W V : Type 0} (g : disk.Ghosts D) where
   -- It was made, and then `migrated` was printed; or it was not, and then it was told why.
