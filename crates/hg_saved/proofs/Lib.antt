@@ -1,3 +1,5 @@
 mod Contents
+mod Heads
+mod Numbers
 mod Putting
 mod Taking

@@ -2,25 +2,25 @@
 use Rattle.std.specs.Prelude.{IsTrue, ◌≡◌, ◌+◌, ℕ, Option, Result, Ok, Err}
 use Rattle.hg_model.specs.Contents.{Content}
 use Rattle.hg_model.specs.declared.verdict.Refusal.{Refusal}
-use Rattle.hg_cells.specs.declared.paged.PagedWords.{PagedWords}
-use Rattle.hg_detect.specs.Shown.{ShownDetector}
 use Rattle.hg_disk.specs.declared.disk.Disk as disk
 use Rattle.hg_root.specs.Checkpoints.{Checkpoint, HasCheckpoint}
 use Rattle.hg_recovery.specs.Answers.{CountedBy}
+use Rattle.hg_saved.specs.Heads.{IsSavedHead}
+use Rattle.hg_saved.specs.declared.head.SavedHead.{SavedHead}
 use Rattle.hg_saved.specs.declared.saved.CheckpointDisks.{CheckpointDisks}
 use Rattle.hg_saved.specs.Saved.{IsSaved, ReadsPages}
 
--- a detector with the disks, or a refusal with them
-abbrev pub SavedOr : Type 0 → Type 0
-SavedOr D = Result (ShownDetector PagedWords × CheckpointDisks D) (Refusal × CheckpointDisks D)
+-- what is asked for with the disks, or a refusal with them
+abbrev pub SavedOr : (T D : Type 0) → Type 0
+SavedOr T D = Result (T × CheckpointDisks D) (Refusal × CheckpointDisks D)
 
 -- the disks that are handed back
-abbrev pub disks_in : {D : Type 0} → SavedOr D → CheckpointDisks D
+abbrev pub disks_in : {T D : Type 0} → SavedOr T D → CheckpointDisks D
 disks_in (Ok r) = r.1
 disks_in (Err e) = e.1
 
 -- DeviceFault adds one failed call, and any other answer adds none.
-abbrev pub CountsAnswer : {D : Type 0} → SavedOr D → ℕ → ℕ → Type 0
+abbrev pub CountsAnswer : {T D : Type 0} → SavedOr T D → ℕ → ℕ → Type 0
 CountsAnswer (Ok r) old new = new ≡ old
 CountsAnswer (Err e) old new = CountedBy e.0 old new
 
@@ -45,6 +45,11 @@ module _ {D : Type 0} (g : disk.Ghosts D) where
   IsSavedOn disks c =
       IsSaved (g.state disks.root0).contents (g.state disks.root1).contents (g.state disks.slots).contents c
 
+  -- It is what the newest root of the disks says, or none.
+  abbrev pub IsHeadOn : CheckpointDisks D → Option SavedHead → Type 0
+  IsHeadOn disks head =
+      IsSavedHead (g.state disks.root0).contents (g.state disks.root1).contents (g.state disks.slots).contents head
+
   -- The slots were read at most once for each page of the newest root.
   abbrev pub ReadsEachPageOnce : (old new : CheckpointDisks D) → Type 0
   ReadsEachPageOnce old new = ReadsPages g (g.state old.root0).contents (g.state old.root1).contents old.slots new.slots
@@ -54,5 +59,5 @@ module _ {D : Type 0} (g : disk.Ghosts D) where
   failures disks = g.failures disks.root0 + g.failures disks.root1 + g.failures disks.slots
 
   -- DeviceFault is told exactly if one call more has failed.
-  abbrev pub CountsSaved : CheckpointDisks D → SavedOr D → Type 0
+  abbrev pub CountsSaved : {T : Type 0} → CheckpointDisks D → SavedOr T D → Type 0
   CountsSaved disks result = CountsAnswer result (failures disks) (failures (disks_in result))

@@ -1,3 +1,4 @@
 pub mod Disks
+pub mod Heads
 pub mod Saved
 pub mod Words

@@ -1,6 +1,7 @@
 -- The content that a checkpoint's detector has.
-use Rattle.std.specs.Prelude.{IsTrue, ◌≡◌, ◌+◌, ℕ, List, Option, Some, None, Result, IfOk, IfSome, length}
+use Rattle.std.specs.Prelude.{IsTrue, ◌≡◌, ◌≤◌, ◌+◌, ℕ, List, Option, Some, None, Result, IfOk, IfSome, length}
 use Rattle.hg_model.specs.Contents.{Content}
+use Rattle.hg_model.specs.declared.limits.TheConstants.{MOST_EVENTS}
 use Rattle.hg_model.specs.declared.verdict.Refusal.{Refusal}
 use Rattle.hg_cells.specs.declared.paged.PagedWords.{PagedWords}
 use Rattle.hg_detect.specs.Memory as memory
@@ -27,6 +28,11 @@ pub record IsSaved (one other slots : List ℕ) (c : Content) : Type 0 where
   pub stands : HasCheckpoint checkpoint one other slots
   pub content : c ≡ start_of checkpoint
   pub only : (o : Option Checkpoint) → HasCheckpoint o one other slots → c ≡ start_of o
+
+-- It counts no more events than there may be, and none of its sources sent more.
+pub record IsNumbered (c : Content) : Type 0 where
+  pub events : c.events ≤ MOST_EVENTS
+  pub last : (source : ℕ) → c.last source ≤ c.events
 
 -- The detector has the content of each checkpoint with these parts whose pages the slots have.
 abbrev pub GivesContentOf : {E : Type 0} → Parts → (slots : List ℕ) → Result (ShownDetector PagedWords) E → Type 0

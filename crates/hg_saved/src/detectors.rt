@@ -2,14 +2,14 @@
 
 ghost use Rattle.std.specs.Prelude.{◌≡◌, IfErr, IfOk, IsTrue, OnOk, false, length};
 ghost use Rattle.hg_cells.specs.Paged.{AreWithin};
-ghost use Rattle.hg_detect.specs.Memory.{IsWhole as IsWholeDetector};
+ghost use Rattle.hg_detect.specs.Memory.{IsWhole as IsWholeDetector, content_of};
 ghost use Rattle.hg_pages.specs.Files.{WasRead, disk_of, is_broken, known};
 ghost use Rattle.hg_root.specs.Lawful.{IsLawful};
 ghost use Rattle.hg_root.specs.Roots.{IsWhole, parts_of};
 ghost use Rattle.hg_checkpoint.specs.NamedPages.{HasPagesOf};
 ghost use Rattle.hg_checkpoint.specs.Restoring.{detector_with};
 ghost use Rattle.hg_recovery.specs.Answers.{CountsFailures, IsOfRoots, OnDamaged};
-ghost use Rattle.hg_saved.specs.Saved.{GivesContentOf};
+ghost use Rattle.hg_saved.specs.Saved.{GivesContentOf, IsNumbered};
 
 use crate::pages::words_of;
 use hg_cells::paged::PagedWords;
@@ -71,6 +71,7 @@ pub(crate) fn detector_at<D: Disk>(
     requires lawful { IsLawful (parts_of root) }
     requires whole { IsWhole root }
     ensures content { IsTrue (D.reads_were_true (disk_of file.new)) → GivesContentOf (parts_of root) (known ⟦<D as Disk>⟧ file.old) result }
+    ensures numbered { IfOk result (λ d. IsNumbered (content_of d)) }
     ensures whole { IfOk result IsWholeDetector }
     ensures limit { IfOk result (λ d. d.sets.limit ≡ MOST_SETS) }
     ensures stands { IsTrue (D.reads_were_true (disk_of file.new)) → OnOk result (HasPagesOf (parts_of root) (known ⟦<D as Disk>⟧ file.old)) }

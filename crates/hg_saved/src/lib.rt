@@ -2,8 +2,10 @@
 #![tactic(auto)]
 
 mod detectors;
+mod head;
 mod pages;
 mod roots;
 mod saved;
 
+pub use head::{SavedHead, saved_head};
 pub use saved::{CheckpointDisks, saved_detector};

@@ -8,7 +8,7 @@ ghost use Rattle.hg_root.specs.Pairs.{IsWorking, first_of, second_of};
 ghost use Rattle.hg_recovery.specs.Answers.{IsOfRoots, OnDamaged};
 ghost use Rattle.hg_recovery.specs.Rooting.{HasNoneIn};
 ghost use Rattle.hg_saved.specs.Disks.{CountsSaved, HasNoneSaved, IsSavedOn, ReadsEachPageOnce, ReadsWereTrue, disks_in};
-ghost use Rattle.hg_saved.specs.Saved.{BothWereTrue, CountsBoth, IsSavedIn, ReadsPagesOf, Stays};
+ghost use Rattle.hg_saved.specs.Saved.{BothWereTrue, CountsBoth, IsNumbered, IsSavedIn, ReadsPagesOf, Stays};
 
 use crate::detectors::detector_at;
 use crate::roots::newest_root;
@@ -41,6 +41,7 @@ fn saved_in<D: Disk>(
     requires file { files.is_broken file.old ≡ false }
     ensures content { BothWereTrue ⟦<D as Disk>⟧ roots.new file.new →
         IfOk result (λ d. IsSavedIn ⟦<D as Disk>⟧ roots.old file.old (content_of d)) }
+    ensures numbered { IfOk result (λ d. IsNumbered (content_of d)) }
     ensures whole { IfOk result IsWhole }
     ensures limit { IfOk result (λ d. d.sets.limit ≡ MOST_SETS) }
     ensures damaged { BothWereTrue ⟦<D as Disk>⟧ roots.new file.new → OnDamaged result (HasNoneIn ⟦<D as Disk>⟧ roots.old file.old) }
@@ -58,7 +59,7 @@ fn saved_in<D: Disk>(
 }
 
 /// The disks of two root files and of a file of slots.
-fn disks_of<D: Disk>(roots: RootPair<D>, file: SlotFile<D>) -> CheckpointDisks<D>
+pub(crate) fn disks_of<D: Disk>(roots: RootPair<D>, file: SlotFile<D>) -> CheckpointDisks<D>
     ensures slots { result.slots ≡ files.disk_of file }
     ensures first { result.root0 ≡ first_of roots }
     ensures second { result.root1 ≡ second_of roots }
@@ -73,7 +74,7 @@ fn disks_of<D: Disk>(roots: RootPair<D>, file: SlotFile<D>) -> CheckpointDisks<D
 
 /// The detector that has the content of the newest checkpoint of these disks, or that of no events where both roots are
 /// closed. It can follow events. Its words are in memory: 3 KiB for each page that the root names. The disks are handed
-/// back as they were.
+/// back as they were. Whatever they answer, the content counts at most 2^58 events.
 ///
 /// `Damaged` only if the roots are not both closed and the disks have no checkpoint, `DeviceFault` exactly if a device
 /// call failed, or `OutOfMemory`. Each page is read once, by one device call, and each root by three calls at most.
@@ -82,6 +83,7 @@ pub fn saved_detector<D: Disk>(
     disks: CheckpointDisks<D>,
 ) -> Result<(MemoryDetector, CheckpointDisks<D>), (Refusal, CheckpointDisks<D>)>
     ensures content { ReadsWereTrue ⟦<D as Disk>⟧ (disks_in result) → IfOk result (λ r. IsSavedOn ⟦<D as Disk>⟧ disks (content_of r.0)) }
+    ensures numbered { IfOk result (λ r. IsNumbered (content_of r.0)) }
     ensures whole { IfOk result (λ r. IsWhole r.0) }
     ensures limit { IfOk result (λ r. r.0.sets.limit ≡ MOST_SETS) }
     ensures damaged { ReadsWereTrue ⟦<D as Disk>⟧ (disks_in result) →

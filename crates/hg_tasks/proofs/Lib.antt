@@ -1,2 +1,4 @@
+mod Beginning
 mod Errors
+mod Refused
 mod Spelled

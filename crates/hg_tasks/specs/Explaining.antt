@@ -1,7 +1,7 @@
 -- What is explained of a trace text and of a store.
 use Rattle.std.specs.Prelude.{◌≡◌, ◌⊎◌, ◌≤◌, ℕ, Bool, true, false, Option, None, Some, [], IsTrue}
 use Rattle.hg_model.specs.declared.verdict.Refusal.{Refusal}
-use Rattle.hg_model.specs.declared.verdict.Refusal.TheVariants.{OutOfMemory}
+use Rattle.hg_model.specs.declared.verdict.Refusal.TheVariants.{Damaged, OutOfMemory}
 use Rattle.hg_options.specs.declared.task.Explaining.{Explaining}
 use Rattle.hg_options.specs.declared.task.Subject.{Subject}
 use Rattle.hg_options.specs.declared.task.Subject.TheVariants.{Word, Race}
@@ -13,10 +13,12 @@ use Rattle.hg_cells.specs.declared.paged.PagedWords.{PagedWords}
 use Rattle.hg_detect.specs.declared.detector.Detector.{Detector}
 use Rattle.hg_detect.specs.Memory.{content_of}
 use Rattle.hg_root.specs.Finding.{WasRead}
-use Rattle.hg_saved.specs.Disks.{IsSavedOn}
+use Rattle.hg_recovery.specs.Answers.{CountedBy, IsOfRoots}
+use Rattle.hg_saved.specs.Disks.{HasNoneSaved, IsSavedOn, failures}
 use Rattle.hg_saved.specs.Saved.{Stays}
 use Rattle.hg_saved.specs.declared.saved.CheckpointDisks.{CheckpointDisks}
 use Rattle.hg_store.specs.Recovering.{IsRecovered}
+use Rattle.hg_store.specs.Refusals.{IsNotOpened}
 use Rattle.hg_store.specs.declared.devices.Devices.{Devices}
 use Rattle.hg_streams.specs.Faults.{EndsByFault, IsStreamFault, IsTold, TellsNoFault}
 use Rattle.hg_streams.specs.Shown.{Outgoing}
@@ -59,7 +61,7 @@ module _ {D W V : Type 0} (g : disk.Ghosts D) where
       ⊎ ((status ≡ 3) × ((r : Refusal) × IsStreamFault r × IsTold before.faults.calls after.faults.calls r))
 
 -- The life of the word at an address was told by the events of a store, of which none was taken before, without numbers of lines; or a fault
--- ended it.
+-- ended it, and what was written is a front of what was due.
 pub record ExplainsEvents {D W V : Type 0} (store : ShownStore D) (address : ℕ) (all : Bool) (output : Outgoing W) (faults : Outgoing V) (result : ℕ × Streams (EventText D) W V) : Type 0 where
   pub before : Streams (EventText D) W V
   pub fresh : IsFresh store before.input.stream
@@ -67,6 +69,7 @@ pub record ExplainsEvents {D W V : Type 0} (store : ShownStore D) (address : ℕ
   pub output_is : before.output ≡ output
   pub faults_are : before.faults ≡ faults
   pub told : word.EndsWell result.0 (word.asked_at address (form_of all false)) before result.1
+  pub front : word.EndsEarly result.0 (word.asked_at address (form_of all false)) before result.1
   pub ended : FaultsAre result.0 before result.1
 
 -- So it was from the content of a detector on, by the events of a store behind those that the content counts.
@@ -77,6 +80,7 @@ pub record ExplainsBehind {D W V : Type 0} (detector : Detector PagedWords) (sto
   pub output_is : before.output ≡ output
   pub faults_are : before.faults ≡ faults
   pub told : behind.EndsWell result.0 detector (word.asked_at address (form_of all false)) before result.1
+  pub front : behind.EndsEarly result.0 detector (word.asked_at address (form_of all false)) before result.1
   pub ended : FaultsAre result.0 before result.1
 
 -- The devices are these two journals, and these slots and roots.
@@ -89,17 +93,40 @@ abbrev pub disks_of : {D : Type 0} → Devices D → CheckpointDisks D
 disks_of devices = record { slots = devices.slots; root0 = devices.root0; root1 = devices.root1 }
 
 module _ {D : Type 0} (g : disk.Ghosts D) where
-  -- The detector has the content of the newest checkpoint of the devices, and the store was recovered of them, whose slots and roots were read
-  -- meanwhile.
-  pub record IsSavedAndRecovered (devices : Devices D) (detector : Detector PagedWords) (store : ShownStore D) : Type 0 where
-    pub saved : IsTrue g.is_honest → IsSavedOn g (disks_of devices) (content_of detector)
+  -- The slots and the roots of the devices were read, and stay as they were; the journals are the same.
+  pub record WereRead (devices read : Devices D) : Type 0 where
     pub disks : CheckpointDisks D
     pub slots : Stays g devices.slots disks.slots
     pub first : WasRead g devices.root0 disks.root0
     pub second : WasRead g devices.root1 disks.root1
-    pub read : Devices D
     pub are : HasDisks devices.journal0 devices.journal1 disks read
+
+  -- The detector has the content of the newest checkpoint of the devices, and the store was recovered of them, whose slots and roots were read
+  -- meanwhile.
+  pub record IsSavedAndRecovered (devices : Devices D) (detector : Detector PagedWords) (store : ShownStore D) : Type 0 where
+    pub saved : IsTrue g.is_honest → IsSavedOn g (disks_of devices) (content_of detector)
+    pub read : Devices D
+    pub were_read : WereRead devices read
     pub recovered : IsTrue g.is_honest → IsRecovered g read store
+
+  -- Why the content of the newest checkpoint was not had. `Damaged`: honest devices have no checkpoint, and their roots are not both closed.
+  -- `DeviceFault` exactly if a call failed. Want of memory may be told at any time.
+  pub record IsNotSaved (devices left : Devices D) (r : Refusal) : Type 0 where
+    pub is : IsOfRoots r
+    pub damaged : IsTrue g.is_honest → r ≡ Damaged → HasNoneSaved g (disks_of devices)
+    pub failed : CountedBy r (failures g (disks_of devices)) (failures g (disks_of left))
+    pub were_read : WereRead devices left
+
+  -- It was had, without a failed call, and then the store was not opened.
+  pub record IsSavedNotOpened (devices left : Devices D) (r : Refusal) : Type 0 where
+    pub read : Devices D
+    pub were_read : WereRead devices read
+    pub none_failed : failures g (disks_of read) ≡ failures g (disks_of devices)
+    pub refused : IsNotOpened g read left r
+
+  -- Why the life of a word could not begin at the newest checkpoint.
+  abbrev pub IsNotBegun : (devices left : Devices D) → Refusal → Type 0
+  IsNotBegun devices left r = IsNotSaved devices left r ⊎ IsSavedNotOpened devices left r
 
 module _ {D W V : Type 0} (g : disk.Ghosts D) where
   -- The life of the word at the address that is asked for was told, by the events of the store, which keeps them from the first one on.
@@ -120,17 +147,24 @@ module _ {D W V : Type 0} (g : disk.Ghosts D) where
     pub explains : ExplainsBehind detector store address all before.output before.faults (result.0, streams)
     pub left : (result.1.output ≡ streams.output) × (result.1.faults ≡ streams.faults)
 
-  -- So it was; or a fault was told.
-  abbrev pub ExplainsSaved : Devices D → ℕ → Bool → Outputs W V → ℕ × Outputs W V → Type 0
-  ExplainsSaved devices address all before result =
-      TellsOfSaved devices address all before result
-      ⊎ ((result.0 ≡ 3) × ((r : Refusal) × IsTold before.faults.calls result.1.faults.calls r))
+  -- That could not begin, the fault was told, with status 3, and nothing was printed. These devices are left.
+  pub record TellsWhyNot (devices : Devices D) (before : Outputs W V) (result : ℕ × Outputs W V) (left : Devices D) : Type 0 where
+    pub refusal : Refusal
+    pub cause : IsNotBegun g devices left refusal
+    pub status : result.0 ≡ 3
+    pub told : IsTold before.faults.calls result.1.faults.calls refusal
+    pub silent : result.1.output ≡ before.output
+
+  -- It was told; or it could not begin, and then the devices are left.
+  abbrev pub ExplainsSaved : Devices D → ℕ → Bool → Outputs W V → ℕ × Outputs W V → Option (Devices D) → Type 0
+  ExplainsSaved devices address all before result None = TellsOfSaved devices address all before result
+  ExplainsSaved devices address all before result (Some left) = TellsWhyNot devices before result left
 
   -- The store no longer keeps its first events, and the life of the word at the address that is asked for was told from its newest checkpoint on.
   abbrev pub TellsOfRest : ShownStore D → Explaining → Outputs W V → ℕ × Outputs W V → Type 0
   TellsOfRest store explaining before result =
       (1 ≤ store.turns.base) × ((address : ℕ) × IsAskedFor g explaining.subject store (Some address)
-      × ExplainsSaved store.devices address explaining.all before result)
+      × ((left : Option (Devices D)) × ExplainsSaved store.devices address explaining.all before result left))
 
   -- The life was told from the first event on, or from the newest checkpoint on; or the store keeps no such report, and that was printed; or
   -- memory was refused before, which was told.

@@ -7,6 +7,7 @@ use crate::directory::{Cause, OpenFault, has_former_store};
 use crate::look::LookDisk;
 use hg_disk::{Disk, FileDisk};
 use hg_model::verdict::Refusal;
+use hg_saved::{CheckpointDisks, SavedHead, saved_head};
 use hg_store::devices::Devices;
 use hg_streams::output::{Output, Outputs};
 use hg_streams::telling::end_by_fault;
@@ -16,7 +17,7 @@ use hg_verbose::lines::Lines;
 use hg_verbose::meaning::{of_damage, of_fault, of_line};
 use hg_verbose::noted::{NotedReader, NotedWriter};
 use hg_verbose::past::Past;
-use std::alloc::AllocError;
+use std::alloc::{AllocError, Global};
 use std::io;
 use std::io::Write;
 use std::string::String;
@@ -221,17 +222,31 @@ pub fn tell_of_serving<W, V>(
     }
 }
 
+/// What the newest checkpoint of a store says of the events that it counts, if it has one and it can be read.
+fn head_on<D: Disk + Drop>(alloc: Global, disks: CheckpointDisks<D>) -> Option<SavedHead> {
+    match saved_head(alloc, disks) {
+        Ok((head, _)) => head,
+        Err(_) => None,
+    }
+}
+
 /// Prints what the last line means, of a command that fed these lines to a store. What the store's events left says it, if they can be
-/// read again.
+/// read again: those that are kept, and those before as far as the newest checkpoint says it.
 fn print_of_fed_line(rt: &HostRuntime, last: Last, lines: &mut Lines, devices: Devices<FileDisk>) {
     let Devices {
         journal0,
         journal1,
-        slots: _,
-        root0: _,
-        root1: _,
+        slots,
+        root0,
+        root1,
     } = devices;
-    if let Ok(past) = kept_past(rt.alloc(), journal0, journal1) {
+    let disks = CheckpointDisks {
+        slots,
+        root0,
+        root1,
+    };
+    let head = head_on(rt.alloc(), disks);
+    if let Ok(past) = kept_past(rt.alloc(), journal0, journal1, head.as_ref()) {
         print_of_line(rt, last, lines, Some(&past));
     }
 }

@@ -1,11 +1,11 @@
 //! Commands on the store in a directory.
 
-ghost use Rattle.std.specs.Prelude.{◌≡◌, IfOk, false};
+ghost use Rattle.std.specs.Prelude.{◌≡◌, IfErr, IfOk, false};
 ghost use Rattle.hg_detect.specs.Memory.{IsWhole};
 ghost use Rattle.hg_check.specs.Running.{HasRoom};
 ghost use Rattle.hg_store.specs.Limits.{IsFrameCount};
 ghost use Rattle.hg_tasks.specs.Exits.{ListsAndExits};
-ghost use Rattle.hg_tasks.specs.Explaining.{ExplainsBehind, ExplainsEvents, ExplainsSaved, ExplainsStore, HasDisks, IsSavedAndRecovered, SaysNoRace};
+ghost use Rattle.hg_tasks.specs.Explaining.{ExplainsBehind, ExplainsEvents, ExplainsSaved, ExplainsStore, HasDisks, IsNotBegun, IsSavedAndRecovered, SaysNoRace};
 
 use crate::directory::{OpenMode, look_at_directory, make_directory, open_directory, open_former};
 use crate::events::EventText;
@@ -24,7 +24,6 @@ use hg_commands::races::{address_of_race, print_no_race};
 use hg_commands::settings::FeedSettings;
 use hg_detect::memory::MemoryDetector;
 use hg_disk::{Disk, FileDisk};
-use hg_model::limits::MOST_EVENTS;
 use hg_model::verdict::Refusal;
 use hg_options::limits::DEFAULT_FRAMES;
 use hg_options::task::{ErrorExitcode, Explaining, Frames, Subject};
@@ -61,7 +60,7 @@ pub fn migrate_in(rt: &HostRuntime, directory: &str) -> u8 {
         Ok(former) => former,
         Err(fault) => return fail_to_open(rt, &fault, false),
     };
-    migrate_and_print(rt.alloc(), former, &mut plain_outputs(rt))
+    migrate_and_print(rt.alloc(), former, &mut plain_outputs(rt)).0
 }
 
 /// Feeds the trace on standard input to the store on these devices, those of a directory, and tells what the last line means.
@@ -240,13 +239,16 @@ fn devices_with<D: Disk>(journal0: D, journal1: D, disks: CheckpointDisks<D>) ->
     }
 }
 
-/// The content of the newest checkpoint of a store's devices, as a detector in memory, and the store, recovered.
-fn saved_and_store<D: Disk + Drop>(
+/// The content of the newest checkpoint of a store's devices, as a detector in memory, and the store, recovered. A refusal hands the devices
+/// back.
+fn saved_and_store<D: Disk>(
     alloc: Global,
     devices: Devices<D>,
-) -> Result<(MemoryDetector, Store<D>), Refusal>
+) -> Result<(MemoryDetector, Store<D>), (Refusal, Devices<D>)>
     ensures saved { IfOk result (λ it. IsSavedAndRecovered ⟦<D as Disk>⟧ devices it.0 it.1) }
     ensures whole { IfOk result (λ it. IsWhole it.0) }
+    ensures room { IfOk result (λ it. HasRoom it.0) }
+    ensures cause { IfErr result (λ e. IsNotBegun ⟦<D as Disk>⟧ devices e.1 e.0) }
 {
     let Devices {
         journal0,
@@ -262,39 +264,34 @@ fn saved_and_store<D: Disk + Drop>(
     };
     let (detector, disks) = match saved_detector(alloc, disks) {
         Ok(found) => found,
-        Err((refusal, _)) => return Err(refusal),
+        Err((refusal, disks)) => return Err((refusal, devices_with(journal0, journal1, disks))),
     };
     let devices = devices_with(journal0, journal1, disks);
     match Store::recover(alloc, devices, DEFAULT_FRAMES, Caps::profile()) {
         Ok(store) => Ok((detector, store)),
-        Err((refusal, _)) => Err(refusal),
+        Err(refused) => Err(refused),
     }
 }
 
 /// Prints the life of the word at an address by the events that a store with these devices still keeps, from the state on that its newest
-/// checkpoint has. Answers the status and the outputs.
+/// checkpoint has. Answers the status, the outputs, and the devices where that could not begin.
 fn explain_saved<D: Disk + Drop, W: Write, V: Write>(
     alloc: Global,
     devices: Devices<D>,
     address: u64,
     all: bool,
     outputs: Outputs<W, V>,
-) -> (u8, Outputs<W, V>)
-    ensures { ExplainsSaved ⟦<D as Disk>⟧ devices address all outputs result }
+) -> (u8, Outputs<W, V>, Option<Devices<D>>)
+    ensures { ExplainsSaved ⟦<D as Disk>⟧ devices address all outputs (result.0, result.1) result.2 }
 {
     let mut outputs = outputs;
     let (detector, store) = match saved_and_store(alloc, devices) {
         Ok(found) => found,
-        Err(refusal) => {
+        Err((refusal, left)) => {
             let status = end_by_fault(refusal, &mut outputs.faults);
-            return (status, outputs);
+            return (status, outputs, Some(left));
         }
     };
-    // Of a content that devices have, the numbers of a source end far below that.
-    if detector.last(0) > MOST_EVENTS {
-        let status = end_by_fault(Refusal::Damaged, &mut outputs.faults);
-        return (status, outputs);
-    }
     let Outputs { output, faults } = outputs;
     let (status, streams) = explain_behind_events(
         alloc, detector, store, address, all, output, faults,
@@ -304,7 +301,7 @@ fn explain_saved<D: Disk + Drop, W: Write, V: Write>(
         output,
         faults,
     } = streams;
-    (status, Outputs { output, faults })
+    (status, Outputs { output, faults }, None)
 }
 
 /// The number of the last event that a store no longer keeps, 0 where it keeps all.
@@ -345,13 +342,9 @@ fn explain_store<D: Disk + Drop, W: Write, V: Write>(
         },
     };
     if gone_of(&store) > 0 {
-        return explain_saved(
-            alloc,
-            store.into_devices(),
-            address,
-            explaining.all,
-            outputs,
-        );
+        let devices = store.into_devices();
+        let (status, outputs, _) = explain_saved(alloc, devices, address, explaining.all, outputs);
+        return (status, outputs);
     }
     let Outputs { output, faults } = outputs;
     let (status, streams) = explain_events(alloc, store, address, explaining.all, output, faults);

@@ -1,10 +1,10 @@
 //! Why the rules refuse an event, in words.
 ghost use Rattle.std.specs.Prelude.{◌≡◌, [], OnOk};
-ghost use Rattle.hg_verbose.specs.Causes.{done_by_text, done_text, first_text, hold_text, mode_text, others_text, some_text, unknown_text};
+ghost use Rattle.hg_verbose.specs.Causes.{done_by_text, done_text, first_text, hold_text, mode_text, others_text, since_text, some_text, unknown_text};
 ghost use Rattle.hg_verbose.specs.Numbers.{Gains, number_text};
 
 use crate::holds::Hold;
-use crate::past::Past;
+use crate::past::{Life, Past};
 use crate::quoting::{put_number, put_numbers};
 use hg_model::event::Event;
 use hg_model::limits::{
@@ -62,20 +62,27 @@ fn mode_of(write: bool) -> &'static str
     }
 }
 
-/// Appends in which mode a lock is held, and since when.
-fn put_mode(write: bool, since: u64, text: &mut String) -> Result<(), AllocError>
-    ensures { OnOk result (Gains text.old text.new (number_text (mode_text write) since [])) }
+/// What is behind the number of the event that took a lock: where that one is gone, an earlier one may have taken it.
+fn before_of(gone: u64, since: u64) -> &'static str
+    ensures { result.now ≡ since_text gone since }
 {
-    put_number(mode_of(write), since, "", text)
+    if since <= gone { " or before" } else { "" }
 }
 
-/// Appends that a thread holds a lock, and since when.
-fn put_hold(hold: Hold, text: &mut String) -> Result<(), AllocError>
-    ensures { OnOk result (Gains text.old text.new (hold_text hold)) }
+/// Appends in which mode a lock is held, and since when. The events up to the one numbered `gone` are gone.
+fn put_mode(gone: u64, write: bool, since: u64, text: &mut String) -> Result<(), AllocError>
+    ensures { OnOk result (Gains text.old text.new (number_text (mode_text write) since (since_text gone since))) }
+{
+    put_number(mode_of(write), since, before_of(gone, since), text)
+}
+
+/// Appends that a thread holds a lock, and since when. The events up to the one numbered `gone` are gone.
+fn put_hold(gone: u64, hold: Hold, text: &mut String) -> Result<(), AllocError>
+    ensures { OnOk result (Gains text.old text.new (hold_text gone hold)) }
 {
     let (thread, lock) = (hold.thread as u64, hold.lock as u64);
     put_numbers("thread ", thread, " holds lock ", lock, text)?;
-    put_mode(hold.write, hold.since, text)
+    put_mode(gone, hold.write, hold.since, text)
 }
 
 /// Appends how many holds there are beside the first one, of so many.
@@ -91,71 +98,76 @@ fn put_others(count: usize, text: &mut String) -> Result<(), AllocError>
     put_number(", and there are ", count as u64 - 1, " holds more", text)
 }
 
-/// Appends that more locks may be held since the event numbered `gone` or before.
-fn put_unknown(gone: u64, text: &mut String) -> Result<(), AllocError>
-    ensures { OnOk result (Gains text.old text.new (unknown_text gone)) }
+/// Appends that more locks may be held since the event numbered `unknown` or before.
+fn put_unknown(unknown: u64, text: &mut String) -> Result<(), AllocError>
+    ensures { OnOk result (Gains text.old text.new (unknown_text unknown)) }
 {
-    if gone == 0 {
+    if unknown == 0 {
         return Ok(());
     }
     put_number(
         ", and there may be more since event ",
-        gone,
+        unknown,
         " or before",
         text,
     )
 }
 
 /// Appends that a lock is held, of which no event is known that took it.
-fn put_some(gone: u64, text: &mut String) -> Result<(), AllocError>
-    ensures { OnOk result (Gains text.old text.new (some_text gone)) }
+fn put_some(unknown: u64, text: &mut String) -> Result<(), AllocError>
+    ensures { OnOk result (Gains text.old text.new (some_text unknown)) }
 {
-    if gone == 0 {
+    if unknown == 0 {
         return text.push_str("a lock is held");
     }
-    put_number("a lock is held since event ", gone, " or before", text)
+    put_number("a lock is held since event ", unknown, " or before", text)
 }
 
-/// Appends the first of some locks that are held, and how many there are more. Of the events up to the one numbered `gone` nothing is
-/// known.
+/// Appends the first of some locks that are held, and how many there are more. The events up to the one numbered `gone` are gone, and of those
+/// up to the one numbered `unknown` it is not known what they left.
 fn put_first(
     gone: u64,
+    unknown: u64,
     first: Option<Hold>,
     count: usize,
     text: &mut String,
 ) -> Result<(), AllocError>
-    ensures { OnOk result (Gains text.old text.new (first_text gone first count)) }
+    ensures { OnOk result (Gains text.old text.new (first_text gone unknown first count)) }
 {
     let Some(hold) = first else {
-        return put_some(gone, text);
+        return put_some(unknown, text);
     };
-    put_hold(hold, text)?;
+    put_hold(gone, hold, text)?;
     put_others(count, text)?;
-    put_unknown(gone, text)
+    put_unknown(unknown, text)
+}
+
+/// Appends that a thread was joined by the event numbered `gone` or before.
+fn put_ended(gone: u64, thread: u64, text: &mut String) -> Result<(), AllocError> {
+    let what = " was joined at or before event ";
+    put_numbers("thread ", thread, what, gone, text)
 }
 
 /// Appends that a thread is not alive, where no event is known that joined it.
-fn put_not_forked(gone: u64, thread: u64, text: &mut String) -> Result<(), AllocError> {
-    if gone == 0 {
-        return put_number("thread ", thread, " was never forked", text);
+fn put_not_joined(past: &Past, thread: u16, text: &mut String) -> Result<(), AllocError> {
+    let (gone, number) = (past.gone(), u64::from(thread));
+    match past.life(thread) {
+        Life::Unused => put_number("thread ", number, " was never forked", text),
+        Life::Ended => put_ended(gone, number, text),
+        Life::Unknown | Life::Alive => {
+            put_ended(gone, number, text)?;
+            text.push_str(", or never forked")
+        }
     }
-    put_numbers(
-        "thread ",
-        thread,
-        " was joined at or before event ",
-        gone,
-        text,
-    )?;
-    text.push_str(", or never forked")
 }
 
 /// Appends that a thread is not alive.
 fn put_not_alive(past: &Past, thread: u16, text: &mut String) -> Result<(), AllocError> {
     let joined = past.joined(thread);
-    let thread = u64::from(thread);
     if joined == 0 {
-        return put_not_forked(past.gone(), thread, text);
+        return put_not_joined(past, thread, text);
     }
+    let thread = u64::from(thread);
     put_numbers("thread ", thread, " was joined by event ", joined, text)
 }
 
@@ -204,39 +216,40 @@ fn put_used(past: &Past, thread: u16, text: &mut String) -> Result<(), AllocErro
 /// Appends which locks the joined thread holds.
 fn put_holds_of(past: &Past, thread: u16, text: &mut String) -> Result<(), AllocError> {
     let (first, count) = past.holds().of_thread(thread);
-    put_first(past.gone(), first, count, text)
+    put_first(past.gone(), past.unknown(), first, count, text)
 }
 
-/// Up to which event nothing is known of those who may hold a lock beside this one. Beside one in write mode there is none.
+/// Up to which event it is not known who may hold a lock beside this one. Beside one in write mode there is none.
 fn unknown_beside(past: &Past, first: Option<Hold>) -> u64 {
     match first {
         Some(hold) if hold.write => 0,
-        _ => past.gone(),
+        _ => past.unknown(),
     }
 }
 
 /// Appends who holds a lock.
 fn put_holders(past: &Past, lock: u16, text: &mut String) -> Result<(), AllocError> {
     let (first, count) = past.holds().of_lock(lock);
-    put_first(unknown_beside(past, first), first, count, text)
+    let unknown = unknown_beside(past, first);
+    put_first(past.gone(), unknown, first, count, text)
 }
 
 /// Appends since when the thread holds the lock that it takes.
 fn put_held(past: &Past, thread: u16, lock: u16, text: &mut String) -> Result<(), AllocError> {
     let first = past.holds().of_both(thread, lock);
-    let gone = match first {
+    let unknown = match first {
         Some(_) => 0,
-        None => past.gone(),
+        None => past.unknown(),
     };
-    put_first(gone, first, 1, text)
+    put_first(past.gone(), unknown, first, 1, text)
 }
 
 /// Appends that no thread holds a lock, where that is known.
-fn put_no_holder(gone: u64, text: &mut String) -> Result<(), AllocError> {
-    if gone == 0 {
+fn put_no_holder(unknown: u64, text: &mut String) -> Result<(), AllocError> {
+    if unknown == 0 {
         return text.push_str(", and no thread does");
     }
-    put_number(", and no thread took it behind event ", gone, "", text)
+    put_number(", and no thread took it behind event ", unknown, "", text)
 }
 
 /// Appends that a thread doesn't hold a lock, and who does.
@@ -244,10 +257,10 @@ fn put_not_held(past: &Past, thread: u16, lock: u16, text: &mut String) -> Resul
     let (actor, wanted) = (u64::from(thread), u64::from(lock));
     put_numbers("thread ", actor, " does not hold lock ", wanted, text)?;
     let Some(hold) = past.holds().of_lock(lock).0 else {
-        return put_no_holder(past.gone(), text);
+        return put_no_holder(past.unknown(), text);
     };
     text.push_str(", and ")?;
-    put_hold(hold, text)
+    put_hold(past.gone(), hold, text)
 }
 
 /// Appends that a thread holds as many locks as it may.
@@ -332,7 +345,7 @@ fn put_past_the_end(event: Event, text: &mut String) -> Result<(), AllocError> {
 
 /// Appends that there may be no more segments.
 fn put_full_graph(past: &Past, text: &mut String) -> Result<(), AllocError> {
-    if past.gone() != 0 {
+    if past.unknown() != 0 {
         let most = u64::from(MOST_SEGMENTS);
         return put_number("there would be more than ", most, " segments", text);
     }

@@ -6,6 +6,7 @@ use hg_disk::Disk;
 use hg_journals::JournalPair;
 use hg_model::verdict::Refusal;
 use hg_pages::MOST_SLOTS;
+use hg_saved::SavedHead;
 use hg_sets::MOST_SETS;
 use std::alloc::{AllocError, Global};
 use std::fmt::Write;
@@ -85,8 +86,21 @@ pub fn damage<D: Disk + Drop>(
     }
 }
 
-/// What the events of a store left, as far as its journals keep them.
-pub fn kept_past<D: Disk + Drop>(alloc: Global, journal0: D, journal1: D) -> Result<Past, Refusal> {
+/// Takes over what a checkpoint says, where it counts the events up to the last one that was followed. Answers whether there was room for it.
+fn take_head(past: &mut Past, head: Option<&SavedHead>) -> bool {
+    match head {
+        Some(head) if head.events == past.last() => past.save(head),
+        _ => true,
+    }
+}
+
+/// What the events of a store left: those that its journals keep, and those before, as far as its newest checkpoint says it.
+pub fn kept_past<D: Disk + Drop>(
+    alloc: Global,
+    journal0: D,
+    journal1: D,
+    head: Option<&SavedHead>,
+) -> Result<Past, Refusal> {
     let mut pair = match JournalPair::attach(alloc, journal0, journal1) {
         Ok(pair) => pair,
         Err((refusal, ..)) => return Err(refusal),
@@ -94,6 +108,9 @@ pub fn kept_past<D: Disk + Drop>(alloc: Global, journal0: D, journal1: D) -> Res
     let mut past = Past::behind(alloc, pair.first_kept() - 1)?;
     let mut reader = pair.events()?;
     for _ in 0..u64::MAX {
+        if !take_head(&mut past, head) {
+            return Err(Refusal::OutOfMemory);
+        }
         let Some(named) = pair.next(&mut reader)? else {
             return Ok(past);
         };

@@ -1,11 +1,12 @@
 //! The locks that are held after some events, and since when.
 
-ghost use Rattle.std.specs.Prelude.{◌≡◌, ◌+◌, ◌∷◌, ◌++◌, [], ◌==◌, ◌&&◌, not, length, IfSome};
+ghost use Rattle.std.specs.Prelude.{◌≡◌, ◌+◌, ◌∷◌, ◌++◌, [], ◌==◌, ◌&&◌, not, IfSome};
 ghost use Rattle.std.specs.Bool.{OnTrue, OnFalse};
 ghost use Rattle.std.specs.List.{filter};
-ghost use Rattle.hg_verbose.specs.Holds.{HoldsFollow, IsHeldNow, IsOf, after};
+ghost use Rattle.hg_verbose.specs.Holds.{HoldsFollow, IsHeldNow, IsOf, Saves, SavesOf, SavesOfEach, accepted, after};
 
 use hg_model::event::Event;
+use hg_model::thread::ThreadState;
 use hg_trail::Trail;
 use std::alloc::Global;
 use std::marker::Model;
@@ -17,12 +18,19 @@ pub struct Hold {
     pub lock: u16,
     /// Whether it is held in write mode.
     pub write: bool,
-    /// The number of the event that took it, from 1 on.
+    /// The number of the event that took it, from 1 on; or that of the last event that is gone, where that one or an earlier one took it.
     pub since: u64,
 }
 
-/// The locks that were taken by some events and are held after them. A contract sees the events, the newest first, and the number of the
-/// last one before them.
+/// What is known: that an event was accepted as the next one, or that a checkpoint says behind the last one that a lock is held.
+#[derive(Clone, Copy, Drop)]
+pub enum Fact {
+    Accepted(Event),
+    Saved(Hold),
+}
+
+/// The locks that are held after some events: those that were taken by them, and those that a checkpoint has. A contract sees these facts,
+/// the newest first, and the number of the last event before them.
 #[derive(Drop)]
 pub struct Holds {
     list: Vec<Hold>,
@@ -30,19 +38,19 @@ pub struct Holds {
     gone: u64,
     /// The number of the last event that was followed.
     last: u64,
-    history: Trail<Event>,
+    history: Trail<Fact>,
 }
 
 impl Model for Holds {
-    ghost use Rattle.std.specs.Prelude.{◌≡◌, ◌+◌, length};
+    ghost use Rattle.std.specs.Prelude.{◌≡◌, ◌+◌};
     ghost use Rattle.std.specs.List.{AllByRecursion};
-    ghost use Rattle.hg_verbose.specs.Holds.{Followed, IsHeld};
+    ghost use Rattle.hg_verbose.specs.Holds.{Followed, IsHeld, accepted};
 
     ghost Value = { Followed };
 
-    ghost view = { λ s. record { gone = s.gone; events = s.history } };
+    ghost view = { λ s. record { gone = s.gone; facts = s.history } };
 
-    ghost invariant = { λ s. (s.last ≡ s.gone + length s.history) × AllByRecursion (IsHeld s.gone s.history) s.list.items };
+    ghost invariant = { λ s. (s.last ≡ s.gone + accepted s.history) × AllByRecursion (IsHeld s.gone s.history) s.list.items };
 }
 
 /// Adds a hold, unless memory is refused.
@@ -110,7 +118,7 @@ fn change(list: &mut Vec<Hold>, event: Event, since: u64) -> bool
 impl Holds {
     /// No hold, behind the event of this number: 0 is before any event.
     pub fn behind(alloc: Global, gone: u64) -> Holds
-        ensures { result ≡ record { gone = gone; events = [] } }
+        ensures { result ≡ record { gone = gone; facts = [] } }
     {
         Holds {
             list: Vec::new(alloc),
@@ -129,7 +137,7 @@ impl Holds {
 
     /// The number of the last event.
     pub fn last(&self) -> u64
-        ensures { result ≡ self.now.gone + length self.now.events }
+        ensures { result ≡ self.now.gone + accepted self.now.facts }
     {
         self.last
     }
@@ -147,7 +155,54 @@ impl Holds {
             return false;
         }
         self.last = since;
-        self.history.push(event);
+        self.history.push(Fact::Accepted(event));
+        true
+    }
+
+    /// Takes from a checkpoint that a thread holds a lock behind the last event. Where no event that was followed took it, one that is gone
+    /// did. Answers whether there was room for it.
+    fn save(&mut self, thread: u16, lock: u16, write: bool) -> bool
+        ensures saved { OnTrue result (Saves thread lock write self.old self.new) }
+        ensures refused { OnFalse result (self.new ≡ self.old) }
+    {
+        if self.of_both(thread, lock).is_some() {
+            return true;
+        }
+        let hold = Hold {
+            thread,
+            lock,
+            write,
+            since: self.gone,
+        };
+        if !add(&mut self.list, hold) {
+            return false;
+        }
+        self.history.push(Fact::Saved(hold));
+        true
+    }
+
+    /// Takes from a checkpoint which locks a thread holds behind the last event, and answers whether there was room for all.
+    fn save_of(&mut self, thread: &ThreadState) -> bool
+        ensures { SavesOf thread.now self.old self.new }
+    {
+        let held = thread.held.as_slice();
+        for i in 0..held.len() {
+            if !self.save(thread.number, held[i].lock, held[i].write) {
+                return false;
+            }
+        }
+        true
+    }
+
+    /// Takes from a checkpoint which locks the threads hold behind the last event, and answers whether there was room for all.
+    pub fn save_all(&mut self, threads: &[ThreadState]) -> bool
+        ensures { SavesOfEach threads.now self.old self.new }
+    {
+        for i in 0..threads.len() {
+            if !self.save_of(&threads[i]) {
+                return false;
+            }
+        }
         true
     }
 

@@ -4,15 +4,34 @@ ghost use Rattle.std.specs.Prelude.{◌≡◌, get_or, set};
 use crate::holds::Holds;
 use hg_model::event::Event;
 use hg_model::limits::THREAD_NUMBERS;
+use hg_model::thread::ThreadState;
+use hg_saved::SavedHead;
 use std::alloc::{AllocError, Global};
 use std::collections::HashMap;
 
+/// What is known of a thread that no known event joined.
+#[derive(Clone, Copy, Drop)]
+pub enum Life {
+    /// Nothing: the events that are gone may have forked it, and joined it.
+    Unknown,
+    /// It was not forked by an event that is gone.
+    Unused,
+    /// It was, and not joined.
+    Alive,
+    /// It was joined by an event that is gone.
+    Ended,
+}
+
 /// What some accepted events left: which locks are held since when, when each thread was forked and joined, and when each
-/// message was sent and received. Those events begin behind the event numbered `gone`, of whose past nothing is known.
+/// message was sent and received. Those events begin behind the event numbered `gone`. What the events up to that one left is known where a
+/// checkpoint was taken over, and else nothing of it.
 #[derive(Drop)]
 pub struct Past {
     segments: u64,
     holds: Holds,
+    /// Whether a checkpoint was taken over.
+    is_saved: bool,
+    lives: Vec<Life>,
     forked: Vec<u64>,
     joined: Vec<u64>,
     sent: HashMap<u32, u64>,
@@ -25,6 +44,24 @@ fn note(places: &mut Vec<u64>, thread: u16, event: u64)
 {
     if usize::from(thread) < places.len() {
         places[usize::from(thread)] = event;
+    }
+}
+
+/// Writes what is known of a thread at its place.
+fn note_life(lives: &mut Vec<Life>, thread: u16, life: Life)
+    ensures { lives.new.items ≡ set lives.old.items thread life }
+{
+    if usize::from(thread) < lives.len() {
+        lives[usize::from(thread)] = life;
+    }
+}
+
+/// What a checkpoint says of the life of a thread that it has.
+fn life_of(thread: &ThreadState) -> Life {
+    if thread.alive {
+        Life::Alive
+    } else {
+        Life::Ended
     }
 }
 
@@ -61,11 +98,13 @@ impl Past {
         Past::behind(alloc, 0)
     }
 
-    /// The past behind the event of this number, where nothing is known of the events up to that one.
+    /// The past behind the event of this number, where nothing is known yet of the events up to that one.
     pub fn behind(alloc: Global, gone: u64) -> Result<Past, AllocError> {
         Ok(Past {
             segments: 1,
             holds: Holds::behind(alloc, gone),
+            is_saved: false,
+            lives: vec![in alloc; Life::Unknown; THREAD_NUMBERS]?,
             forked: vec![in alloc; 0; THREAD_NUMBERS]?,
             joined: vec![in alloc; 0; THREAD_NUMBERS]?,
             sent: HashMap::new(alloc),
@@ -101,9 +140,45 @@ impl Past {
         true
     }
 
-    /// The number of the last event of which nothing is known, 0 where all are known.
+    /// Takes over what a checkpoint says of the threads behind the last event that was followed, where events before those are gone. Answers
+    /// whether there was room for it.
+    pub fn save(&mut self, head: &SavedHead) -> bool {
+        if self.gone() == 0 {
+            return true;
+        }
+        self.lives.fill(Life::Unused);
+        for thread in &head.threads {
+            note_life(&mut self.lives, thread.number, life_of(thread));
+        }
+        self.segments = u64::from(head.segments);
+        self.is_saved = true;
+        self.holds.save_all(&head.threads)
+    }
+
+    /// The number of the last event.
+    pub fn last(&self) -> u64 {
+        self.holds.last()
+    }
+
+    /// The number of the last event that is gone, 0 where there is none.
     pub fn gone(&self) -> u64 {
         self.holds.gone()
+    }
+
+    /// The number of the last event of which it is not known what it left, 0 where that is known of all.
+    pub fn unknown(&self) -> u64 {
+        if self.is_saved { 0 } else { self.gone() }
+    }
+
+    /// What is known of a thread that no known event joined.
+    pub fn life(&self, thread: u16) -> Life {
+        if self.gone() == 0 {
+            return Life::Unused;
+        }
+        match self.lives.get(usize::from(thread)) {
+            Some(life) => *life,
+            None => Life::Unknown,
+        }
     }
 
     /// The locks that are held.
@@ -111,7 +186,7 @@ impl Past {
         &self.holds
     }
 
-    /// How many segments there are, where all events are known.
+    /// How many segments there are, where it is known what all events left.
     pub fn segments(&self) -> u64 {
         self.segments
     }

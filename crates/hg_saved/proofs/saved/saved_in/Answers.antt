@@ -7,6 +7,7 @@ use Rattle.hg_root.specs.Roots.{parts_of}
 use Rattle.hg_checkpoint.specs.NamedPages.{HasPagesOf}
 use Rattle.hg_saved.specs.Saved.{GivesContentOf}
 use Rattle.hg_saved.proofs.Contents.{each_saved, known_is, none_saved, none_stands, reads_pages}
+use Rattle.hg_saved.proofs.Numbers.{empty_is_numbered}
 use Rattle.hg_saved.proofs.saved.saved_in.Goals as goal
 
 pub returns-in_err-root-clause-damaged : goal.returns-in_err-root-clause-damaged
@@ -44,3 +45,6 @@ returns-in-None-clause-content g c honest =
     let found = c.in_ok-root.ensures.found honest.0 in
     none_saved (first_bytes g.D.Disk roots) (second_bytes g.D.Disk roots) (g.D.Disk.state (disk_of c.args.file.now)).contents (root_in c.in_ok-root.field-0) found.0 c.new_detector.result (ap root_in c.in-None.is) found.1 found.2
     (c.in_ok-root.ensures.only honest.0) c.new_detector.ensures.content
+
+pub returns-in-None-clause-numbered : goal.returns-in-None-clause-numbered
+returns-in-None-clause-numbered g c = empty_is_numbered c.new_detector.result c.new_detector.ensures.content

@@ -14,5 +14,6 @@ returns g c =
       output_is = refl;
       faults_are = refl;
       told = c.explain_behind-status.ensures.prints;
+      front = c.explain_behind-status.ensures.front;
       ended = (c.explain_behind-status.ensures.fault, c.explain_behind-status.ensures.quiet);
     }

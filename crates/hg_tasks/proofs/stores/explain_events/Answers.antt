@@ -10,5 +10,6 @@ returns g c = record {
   output_is = refl;
   faults_are = refl;
   told = c.explain-status.ensures.prints;
+  front = c.explain-status.ensures.front;
   ended = (c.explain-status.ensures.fault, c.explain-status.ensures.quiet);
 }

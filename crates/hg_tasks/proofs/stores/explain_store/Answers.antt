@@ -28,7 +28,10 @@ returns-then-gone_of-gt0 g c = inr (inr (inl (
       | in-Race+in-Ok-Some w ↦ subst (λ x. IsAskedFor g.D.Disk x c.args.store (Some c.match-explaining.address)) (sym w.in-Race.is)
           (subst (λ x. FindsRace g.D.Disk w.in-Race.number c.args.store x) (w.in-Ok-Some.field-0-is ∙ ap Some (sym w.address-is)) w.in-Ok-Some.ensures.found)
     ],
-    subst (λ d. ExplainsSaved g.D.Disk d c.match-explaining.address c.args.explaining.all c.args.outputs c.explain_saved.result) c.into_devices.ensures
-        c.explain_saved.ensures,
+    (
+      _,
+      subst (λ d. ExplainsSaved g.D.Disk d c.match-explaining.address c.args.explaining.all c.args.outputs (c.explain_saved-status-outputs.result.0, c.explain_saved-status-outputs.result.1) c.explain_saved-status-outputs.result.2) c.into_devices-devices.ensures
+          c.explain_saved-status-outputs.ensures,
+    ),
   ),
 )))
