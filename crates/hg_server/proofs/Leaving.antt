@@ -8,25 +8,27 @@ use Rattle.hg_detect.specs.Shown as detect
 use Rattle.hg_pool.specs.Maps as pools
 use Rattle.hg_pool.specs.Shown as pool
 use Rattle.hg_images.specs.Images.{HasContent}
-use Rattle.hg_store.specs.Journal.{after_refusal}
+use Rattle.hg_store.specs.Journal.{after_refusal, failed_after}
 use Rattle.hg_store.specs.declared.devices.Devices.{Devices}
 use Rattle.hg_store.specs.Images.{EachImage, EachImageAlong, HasContentOfOne, IsOn, Recovers, failures_of, read_of}
-use Rattle.hg_store.specs.Runs.{Made}
+use Rattle.hg_store.specs.Runs.{Made, made}
 use Rattle.hg_store.specs.Shown.{ShownStore, live}
-use Rattle.hg_store.specs.Steps.{IsCommitted, IsNotCommitted}
-use Rattle.hg_store.specs.Store.{Backs, IsFresh, IsIdle}
+use Rattle.hg_store.specs.Steps.{CommitDone, IsCommitted, IsNotCommitted}
+use Rattle.hg_store.specs.Store.{Backs, IsFresh, IsIdle, StandMeanwhile}
+use Rattle.hg_store.specs.declared.steps.Step.TheVariants.{Commit}
+use Rattle.hg_store.specs.declared.steps.StepResult.TheVariants.{Committed}
 use Rattle.hg_streams.specs.Calls.{failed_writes}
 use Rattle.hg_streams.specs.Faults.{HasWriteCause}
 use Rattle.hg_streams.specs.Written.{Took, TookFront}
 use Rattle.hg_streams.proofs.Printed.{failed_on}
 use Rattle.hg_streams.specs.declared.call.WriteCall.{WriteCall}
 use Rattle.hg_desk.specs.Going.{IsRun, LeadsTo, Point, RanFrom, WentOn, began, moments_of, of_points, oldest, points_of}
-use Rattle.hg_desk.proofs.Going.{along_of_points, each_of_points, each_to_points, is_run, oldest_point}
+use Rattle.hg_desk.proofs.Going.{along_of_points, each_of_points, each_to_points, is_run, oldest_point, ran_on, step_went}
 use Rattle.hg_store.specs.Limits.{greatest_with, limits_of}
 use Rattle.hg_server.specs.Acknowledged.{LeavesAcksDurable}
 use Rattle.hg_server.specs.Recording.{Accounts, NoneLacks, held_in, refusal_of}
 use Rattle.hg_server.specs.Serving.{IsAccounted, LeavesRun, Served, StoppedEarly, WasOpened, serving_by}
-use Rattle.hg_server.specs.Settling.{IsCommitFault, IsServingFault, IsSettled, SettlesOrBreaks, StopsFor}
+use Rattle.hg_server.specs.Settling.{IsCommitFault, IsServingFault, IsSettled, SettlesOrBreaks, StillRan, StillWentOn, StopsFor}
 use Rattle.hg_server.specs.declared.course.Course.{Course}
 use Rattle.hg_server.specs.declared.settings.Settings.{Settings}
 use Rattle.hg_server.specs.declared.fault.ServingFault.{ServingFault}
@@ -126,6 +128,26 @@ module _ {D : Type 0} (g : disk.Ghosts D) where
     durable = λ honest. let has = fresh honest in has.2.durable ∙ sym has.2.has;
     backs = λ honest. (fresh honest).2.backs;
   }
+
+  -- the commit at the end was noted
+  pub commit_listed : (began old : ShownStore D) (earlier steps : List (Made D)) (one : Made D) (r : Result ℕ Refusal) → steps ≡ one ∷ earlier → one ≡ made began Commit (Committed r) → began ≡ old → steps ≡ made old Commit (Committed r) ∷ earlier
+  commit_listed began old earlier steps one r pushed is same =
+      pushed ∙ ap (λ (m : Made D). m ∷ earlier) (is ∙ ap (λ (s : ShownStore D). made s Commit (Committed r)) same)
+
+  -- and its store went on
+  module _ (old new : ShownStore D) (earlier steps : List (Made D)) (r : Result ℕ Refusal) (listed : steps ≡ made old Commit (Committed r) ∷ earlier) (done : CommitDone g old new r)
+      (device : failures_of g new.devices ≡ failed_after r (failures_of g old.devices)) (images : IsTrue g.is_honest → StandMeanwhile g old new true) where
+    same_content : live g new ≡ live g old
+    same_content = ap (λ (d : detect.ShownDetector (pool.ShownPool D)). detect.content (pools.live g) d) done.detector
+
+    pub commit_went : (IsTrue g.is_honest → Backs g old) → StillWentOn g (moments_of earlier) old (moments_of steps) new
+    commit_went backs start went =
+        subst (λ (list : List (Made D)). WentOn g start (moments_of list) new) (sym listed)
+        (step_went g old new start (moments_of earlier) Commit (Committed r) went (r, refl, done) (λ honest. same_content) device backs images)
+
+    pub commit_ran : (IsTrue g.is_honest → Backs g new) → StillRan g earlier old steps new
+    commit_ran backs start ran =
+        ran_on g start old new earlier steps Commit (Committed r) listed (record { done = (r, refl, done); failures = device; content = λ honest. same_content; images = images }) backs ran
 
   -- what was done to its store is a run
   pub leaves_run : (start now : ShownStore D) (course : Course D) (first : ShownStore D) (steps : List (Made D)) → course.opened ≡ first ∷ [] → first ≡ start → course.steps ≡ steps → RanFrom g (began g start) steps now → LeavesRun g course now
