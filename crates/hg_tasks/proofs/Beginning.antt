@@ -1,6 +1,5 @@
 -- Why the life of a word could not begin at the newest checkpoint of a store, and that there is room behind one.
-use Rattle.std.proofs.Common.{◌≡◌, IsTrue, inl, inr, ℕ, Option, Some, None, Result, Ok, Err, ap, subst, sym, arith}
-use Rattle.std.specs.Prelude.{IfOk}
+use Rattle.std.proofs.Common.{◌≡◌, IsTrue, inl, inr, subst, sym, arith}
 use Rattle.hg_model.specs.declared.verdict.Refusal.{Refusal}
 use Rattle.hg_model.specs.declared.verdict.Refusal.TheVariants.{Damaged}
 use Rattle.hg_cells.specs.declared.paged.PagedWords.{PagedWords}

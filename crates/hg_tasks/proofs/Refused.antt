@@ -1,5 +1,5 @@
 -- Why a store was not migrated, and what is left.
-use Rattle.std.proofs.Common.{◌≡◌, ◌⊎◌, inl, inr, ◌+◌, ℕ, IsTrue, List, [], refl, ap, ◌∙◌, arith}
+use Rattle.std.proofs.Common.{◌≡◌, inl, inr, ◌+◌, ℕ, IsTrue, refl, ap, ◌∙◌, arith}
 use Rattle.std.specs.Prelude.{◌≢◌}
 use Rattle.hg_disk.specs.Moments.{AddsNoImage}
 use Rattle.hg_disk.specs.State.{DiskState}
@@ -10,7 +10,6 @@ use Rattle.hg_migration.specs.Fault.{after_fault}
 use Rattle.hg_migration.specs.Migrating.{AreEmpty, HasHeader, ReadsSame, failures_of}
 use Rattle.hg_migration.specs.declared.fault.MigrationFault.{MigrationFault}
 use Rattle.hg_migration.specs.declared.fault.MigrationFault.TheVariants.{Damaged, DeviceFault, NotEmpty, OutOfMemory}
-use Rattle.hg_migration.specs.declared.migrating.OldDevices.{OldDevices}
 use Rattle.hg_tasks.specs.Migrating.{HaveSlotsAndRoots, IsNotMigrated}
 use Rattle.hg_tasks.specs.declared.migrating.FormerStore.{FormerStore}
 
