@@ -77,7 +77,7 @@ impl<F: PositionedFile + Drop> Drop for PositionedDisk<F> {
 
 impl<F: PositionedFile> PositionedDisk<F> {
     ghost use Rattle.hg_disk.specs.State.{settled};
-    ghost use Rattle.hg_disk.specs.Positioned.{failures_of, past_of, reads_were_true_of, state_of};
+    ghost use Rattle.hg_disk.specs.Positioned.{failures_of, past_of, state_of};
 
     /// A disk over this file, which was opened just now.
     pub fn new(file: F) -> PositionedDisk<F>
@@ -86,7 +86,7 @@ impl<F: PositionedFile> PositionedDisk<F> {
         ensures state { state_of ⟦<F as PositionedFile>⟧ result ≡ settled (F.opened file) }
         ensures past { past_of ⟦<F as PositionedFile>⟧ result ≡ [] }
         ensures failures { failures_of ⟦<F as PositionedFile>⟧ result ≡ 0 }
-        ensures reads { IsTrue (reads_were_true_of ⟦<F as PositionedFile>⟧ result) }
+        ensures reads { IsTrue (⟦<PositionedDisk<F> as Disk>⟧.reads_were_true result) }
     {
         let len = file.opened_len();
         PositionedDisk {

@@ -87,7 +87,7 @@ impl<'a> LookDisk<'a> {
         ensures synced { (look_state result).since ≡ [] }
         ensures past { look_past result ≡ [] }
         ensures failures { look_failures result ≡ 0 }
-        ensures reads { IsTrue (look_reads_were_true result) }
+        ensures reads { IsTrue (⟦<LookDisk<'a> as Disk>⟧.reads_were_true result) }
     {
         let len = base.len();
         let opened = found_in(&base);
