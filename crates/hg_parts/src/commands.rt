@@ -76,13 +76,7 @@ pub fn check_by_parts<T: Threads + Sync, R: Read, W: Write, V: Write>(
         Ok(sink) => sink,
         Err(refusal) => return failed(end_by_fault(refusal, &mut streams.faults)),
     };
-    match run_check(
-        rt,
-        jobs,
-        &mut sink,
-        &mut streams.input,
-        &mut streams.output,
-    ) {
+    match run_check(rt, jobs, &mut sink, &mut streams.input, &mut streams.output) {
         Ok((end, has_races)) => Checked {
             status: status_of_end(end),
             has_races,

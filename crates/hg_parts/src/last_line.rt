@@ -17,12 +17,7 @@ fn hold_end(judge: &Judge, held: &mut Vec<u8>) -> Result<(), Refusal>
     ensures ok { (c : Content) → StandsBy Ending.Ended c judge.now → OnOk result (held.new.items ≡ held.old.items ++ line_text (last_line c Ending.Ended)) }
     ensures cause { IfErr result (λ r. r ≡ Refusal.OutOfMemory) }
 {
-    put_end_line(
-        judge.events(),
-        judge.total(),
-        judge.segments() as u64,
-        held,
-    )?;
+    put_end_line(judge.events(), judge.total(), judge.segments() as u64, held)?;
     end_line(held)
 }
 
