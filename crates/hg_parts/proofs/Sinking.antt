@@ -1,8 +1,10 @@
 -- What a sink takes of a queue: a batch, and lines behind it.
-use Rattle.std.proofs.Common.{◌≡◌, ℕ, ◌+◌, ◌<◌, ◌^◌, List, [], ◌∷◌, ◌++◌, length, map, Option, None, Result, Ok, refl, sym, ap, ◌∙◌, subst, arith}
+use Rattle.std.proofs.Common.{◌≡◌, ℕ, ◌+◌, ◌<◌, ◌^◌, List, [], ◌∷◌, ◌++◌, length, map, Option, None, Result, Ok, Err, refl, sym, ap, ◌∙◌, subst, arith}
 use Rattle.std.proofs.lemmas.List.{append_assoc, length-append, length-map, map-append}
+use Rattle.hg_model.specs.declared.event.Event.{Event}
 use Rattle.hg_model.specs.declared.verdict.Refusal.{Refusal}
 use Rattle.hg_streams.specs.declared.call.WriteCall.{WriteCall}
+use Rattle.hg_wire.specs.declared.line.LineFault.{LineFault}
 use Rattle.hg_wire.specs.declared.reader.Reading.{Reading}
 use Rattle.hg_wire.specs.Streams.{numbered_on}
 use Rattle.hg_reading.specs.declared.ending.Ending.{Ending}
@@ -13,6 +15,7 @@ use Rattle.hg_parts.specs.declared.checking.PartsChecking.{PartsChecking}
 use Rattle.hg_parts.specs.declared.line.EventLine.{EventLine}
 use Rattle.hg_parts.specs.Batches.{readings_in}
 use Rattle.hg_parts.specs.Queues.{lines_held}
+use Rattle.hg_parts.specs.Stopping.{bad_at, reading_at}
 use Rattle.hg_parts.specs.Taking.{MayTake, TakesLines, TakesQuietly}
 use Rattle.hg_parts.specs.TakingLaws.{takes_fewer, takes_on, takes_room}
 use Rattle.hg_parts.proofs.Taking.{on_and_on}
@@ -38,6 +41,14 @@ may_rest s t n last lines rest may takes =
     let same : length (lines_held last lines rest).readings ≡ length (map (numbered_on n) (readings_in lines)) + length (lines_of rest).readings =
     held_length last lines rest ∙ ap (λ (k : ℕ). k + length (lines_of rest).readings) (sym (length-map (readings_in lines) (numbered_on n))) in
     takes_room s t [] [] (map (numbered_on n) (readings_in lines)) (length (lines_of rest).readings) (subst (λ (k : ℕ). MayTake s k) same may) (takes [])
+
+-- the line of an event, as it was read
+pub takes_event : (a b : PartsChecking) (reading : Reading) (e : Event) (r : Result (Option Ending) Refusal) → reading.event ≡ Ok e → TakesQuietly a (reading_at reading.line e ∷ []) r b → TakesQuietly a (reading ∷ []) r b
+takes_event a b reading e r is h = subst (λ (event : Result Event LineFault). TakesQuietly a (record { line = reading.line; event = event } ∷ []) r b) (sym is) h
+
+-- a bad line, as it was read
+pub takes_fault : (a b : PartsChecking) (reading : Reading) (fault : LineFault) (r : Result (Option Ending) Refusal) → reading.event ≡ Err fault → TakesQuietly a (bad_at reading.line fault ∷ []) r b → TakesQuietly a (reading ∷ []) r b
+takes_fault a b reading fault r is h = subst (λ (event : Result Event LineFault). TakesQuietly a (record { line = reading.line; event = event } ∷ []) r b) (sym is) h
 
 module _ {S : Type 0} (checking : S → PartsChecking) where
   abbrev pub seen : Taking S Ending
