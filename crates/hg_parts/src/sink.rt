@@ -42,7 +42,6 @@ impl<'a, T> PartsSink<'a, T> {
 
 impl<T: Threads + Sync, W: Write> Sink<W> for PartsSink<'_, T> {
     ghost use denote.Param.Send.{IsSync};
-    ghost use Rattle.std.specs.Prelude.{◌×◌};
     ghost use Rattle.hg_parts.specs.Taking.{IsSettled, MayTake, TakesLines};
     ghost use Rattle.hg_parts.specs.TakingLaws.{takes_fewer, takes_none, takes_on, takes_room};
 
