@@ -15,6 +15,7 @@ use Rattle.hg_sets.specs.declared.table.TheConstants.{MOST_SETS}
 use Rattle.hg_wire.specs.declared.line.LineFault.{LineFault}
 use Rattle.hg_wire.specs.declared.line.LineFault.TheVariants.{Verb}
 use Rattle.hg_wire.specs.declared.reader.Reading.{Reading}
+use Rattle.hg_wire.specs.Reports.{end_line}
 use Rattle.hg_wire.specs.Streams.{readings}
 use Rattle.hg_streams.specs.declared.call.ReadCall.{ReadCall}
 use Rattle.hg_streams.specs.declared.call.WriteCall.{WriteCall}
@@ -22,7 +23,7 @@ use Rattle.hg_streams.specs.declared.listing.Listing.TheVariants.{Reports}
 use Rattle.hg_streams.specs.Calls.{NoneFailedSince, failed_writes}
 use Rattle.hg_streams.specs.Faults.{HasCause, HasWriteCause}
 use Rattle.hg_streams.specs.Holding.{IsDue}
-use Rattle.hg_streams.specs.Texts.{reports_text}
+use Rattle.hg_streams.specs.Texts.{line_text, reports_text}
 use Rattle.hg_streams.specs.Written.{TookFront}
 use Rattle.hg_streams.proofs.Inputs.{none_failed}
 use Rattle.hg_streams.proofs.Printed.{due_at_first}
@@ -32,9 +33,9 @@ use Rattle.hg_reading.specs.Endings.{ending_of}
 use Rattle.hg_reading.specs.Taking.{AreDue, ReadBroke, Reads, WasRead}
 use Rattle.hg_reading.proofs.Inputs.{begins_with}
 use Rattle.hg_shards.specs.declared.judge.Judge.{Judge}
-use Rattle.hg_shards.specs.Judging.{HasReports}
+use Rattle.hg_shards.specs.Judging.{HasReports, IsAt}
 use Rattle.hg_check.specs.Checking.{Answered, IsRead, LeadsTo, next_named}
-use Rattle.hg_check.specs.Printing.{EndsByFrom, ReadsFrom, WroteFront, check_text}
+use Rattle.hg_check.specs.Printing.{EndsByFrom, ReadsFrom, WroteFront, check_text, last_line}
 use Rattle.hg_check.specs.Running.{HasFew, HasReports as GrowInto, ReportsGrow}
 use Rattle.hg_check.proofs.Fronts.{wrote_check, wrote_live}
 use Rattle.hg_check.proofs.Steps.{leads_grow}
@@ -140,6 +141,17 @@ pub reports_known : (end : Ending) (c : Content) (j : Judge) → StandsBy end c 
 reports_known Ended c j h = has_reports c h.0 j h.1
 reports_known (Refused line r) c j h = h
 reports_known (Bad line) c j h = h
+
+-- the end line has the counts of the judge
+pub end_held : (r : Result ⊤ Refusal) (c : Content) (j : Judge) (old mid new : List ℕ) (events total segments : ℕ) → StandsBy Ended c j → events ≡ j.events → ((d : Content) (t : Table) → IsAt d t j → total ≡ d.total)
+    → ((d : Content) (t : Table) → IsAt d t j → segments ≡ length d.segments) → mid ≡ old ++ end_line events total segments → OnOk r (new ≡ mid ++ 10 ∷ []) → OnOk r (new ≡ old ++ line_text (last_line c Ended))
+end_held (Ok done) c j old mid new events total segments h count reports many is held =
+    let at = h.1 in
+    let counts : events ≡ c.events = count ∙ events_at c h.0 j at ∙ at.counted in
+    let same : end_line events total segments ≡ end_line c.events c.total (length c.segments) =
+    ap (λ (n : ℕ). end_line n total segments) counts ∙ ap (λ (n : ℕ). end_line c.events n segments) (reports c h.0 at.is_at) ∙ ap (λ (n : ℕ). end_line c.events c.total n) (many c h.0 at.is_at) in
+    held ∙ ap (λ (t : List ℕ). t ++ 10 ∷ []) (is ∙ ap (λ (t : List ℕ). old ++ t) same) ∙ append_assoc old (end_line c.events c.total (length c.segments)) (10 ∷ [])
+end_held (Err x) c j old mid new events total segments h count reports many is held = tt
 
 -- ---- a run
 

@@ -1,6 +1,6 @@
 //! A judge with a buffer of lines, which takes the lines of a trace text.
 
-ghost use Rattle.std.specs.Prelude.{◌≡◌, IfErr, IfOk};
+ghost use Rattle.std.specs.Prelude.{◌≡◌, ◌≤◌, IfErr, IfOk};
 
 use crate::checking::PartsChecking;
 use crate::queue::PartsQueue;

@@ -24,7 +24,7 @@ returns-clause-prints g c =
         written = c.write_out.new.output.calls;
         flushed = c.in_ok-flush.ensures.calls;
       },
-      c.has_races.ensures came.last (reports_known c.in_ok-end.end came.last c.run.new.sink.checking.judge came.stands),
+      c.has_races-has_races.ensures came.last (reports_known c.in_ok-end.end came.last c.run.new.sink.checking.judge came.stands),
     )
 
 pub returns-in_err-hold_last_line-clause-cause : goal.returns-in_err-hold_last_line-clause-cause
