@@ -1,4 +1,4 @@
-use denote.Param.Send.{IsSync, param_sync}
+use denote.Param.Send.{IsSync}
 use Rattle.std.proofs.Common.{rules, sym, subst}
 use Rattle.std.proofs.lemmas.Result.{err_from_is_err_and}
 use Rattle.hg_streams.proofs.Printed.{always_err}
@@ -9,7 +9,7 @@ use Rattle.hg_parts.proofs.run.run.Goals as goal
 pub read_side_by_side-requires-clause-room : goal.read_side_by_side-requires-clause-room
 read_side_by_side-requires-clause-room g c κs within =
     let clock : IsSync g.row.T = search (rules, c.type_bounds) parts 8 in
-    (param_sync _ _ (param_sync _ _ clock), may_begin c.args.sink.now.checking c.requires.fresh)
+    (record { shared = clock.shared }, may_begin c.args.sink.now.checking c.requires.fresh)
 
 pub returns-in_err-stop-clause-front : goal.returns-in_err-stop-clause-front
 returns-in_err-stop-clause-front g c =

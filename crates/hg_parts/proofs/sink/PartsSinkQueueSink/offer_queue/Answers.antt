@@ -1,4 +1,3 @@
-use denote.Param.Send.{param_sync}
 use Rattle.std.proofs.Common.{◌≡◌, map, Ok, None, Some, Err, subst}
 use Rattle.hg_wire.specs.Streams.{numbered_on}
 use Rattle.hg_parts.specs.Batches.{readings_in}
@@ -13,7 +12,7 @@ offer_all-requires-clause-room g c =
     let s = c.args.self.now.checking in
     let b = c.args.queue.now.batch in
     let takes = subst (λ x. TakesQuietly s (map (numbered_on c.args.lines) (readings_in b.lines)) (Ok x) c.offer_batch.new.self) c.in-Ok-None.field-0-is c.in-Ok-None.ensures in
-    (param_sync _ _ c.requires.room.0, may_slice s c.offer_batch.new.self c.args.lines b.greatest b.lines c.args.queue.now.rest.items c.as_slice.result.now c.as_slice.ensures.value c.requires.room.1 takes)
+    (record { shared = c.requires.room.0.shared }, may_slice s c.offer_batch.new.self c.args.lines b.greatest b.lines c.args.queue.now.rest.items c.as_slice.result.now c.as_slice.ensures.value c.requires.room.1 takes)
 
 pub returns-in-Err : goal.returns-in-Err
 returns-in-Err g c =
