@@ -1,5 +1,5 @@
 -- What reading a whole text leads to, and what was printed of it.
-use Rattle.std.proofs.Common.{◌≡◌, ℕ, ◌+◌, ◌<◌, ◌^◌, List, [], ◌∷◌, ◌++◌, length, take, Option, None, Some, Result, Ok, Err, OnErr, OnOk, refl, sym, ap, ◌∙◌, subst, inl, inr, ⊎_elim, arith}
+use Rattle.std.proofs.Common.{◌≡◌, ℕ, ◌+◌, ◌^◌, List, [], ◌∷◌, ◌++◌, length, Option, None, Some, Result, Ok, Err, OnOk, refl, sym, ap, ◌∙◌, subst, inl, inr, ⊎_elim, arith}
 use Rattle.std.specs.Bool.{⊤}
 use Rattle.std.proofs.lemmas.List.{append-nil, append_assoc, length-take}
 use Rattle.hg_model.specs.declared.event.Event.{Event}
@@ -20,9 +20,8 @@ use Rattle.hg_wire.specs.Streams.{readings}
 use Rattle.hg_streams.specs.declared.call.ReadCall.{ReadCall}
 use Rattle.hg_streams.specs.declared.call.WriteCall.{WriteCall}
 use Rattle.hg_streams.specs.declared.listing.Listing.TheVariants.{Reports}
-use Rattle.hg_streams.specs.Calls.{NoneFailedSince, failed_writes}
+use Rattle.hg_streams.specs.Calls.{failed_writes}
 use Rattle.hg_streams.specs.Faults.{HasCause, HasWriteCause}
-use Rattle.hg_streams.specs.Holding.{IsDue}
 use Rattle.hg_streams.specs.Texts.{line_text, reports_text}
 use Rattle.hg_streams.specs.Written.{TookFront}
 use Rattle.hg_streams.proofs.Inputs.{none_failed}
@@ -42,14 +41,14 @@ use Rattle.hg_check.proofs.Steps.{leads_grow}
 use Rattle.hg_check.proofs.Whole.{cause_by_read, cause_of}
 use Rattle.hg_parts.specs.declared.checking.PartsChecking.{PartsChecking}
 use Rattle.hg_parts.specs.declared.sink.PartsSink.{PartsSink}
-use Rattle.hg_parts.specs.Going.{At, Goes, Passes, PassesOne, Stops}
+use Rattle.hg_parts.specs.Going.{At, Passes, PassesOne, Stops}
 use Rattle.hg_parts.specs.GoingLaws.{events_at}
 use Rattle.hg_parts.specs.Running.{Came, StandsBy}
 use Rattle.hg_parts.specs.Stopping.{bad_at}
-use Rattle.hg_parts.specs.Taking.{Comes, HasPrinted, HasPrintedAll, IsFresh, IsSettled, MayTake, PrintsAllOf, pending}
+use Rattle.hg_parts.specs.Taking.{Comes, HasPrinted, IsFresh, IsSettled, MayTake, PrintsAllOf, pending}
 use Rattle.hg_parts.proofs.Going.{leads_behind, leads_from_behind}
 use Rattle.hg_parts.proofs.Sinking.{seen}
-use Rattle.hg_parts.proofs.Taking.{Rests, front_now, has_reports, reports_still}
+use Rattle.hg_parts.proofs.Taking.{Rests, front_now, has_reports}
 
 -- ---- lines, where none was pending
 

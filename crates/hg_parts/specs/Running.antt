@@ -1,5 +1,5 @@
 -- How a run of a judge over a whole trace text ends.
-use Rattle.std.specs.Prelude.{◌≡◌, List, []}
+use Rattle.std.specs.Prelude.{List, []}
 use Rattle.hg_model.specs.Contents.{Content}
 use Rattle.hg_sets.specs.Interning.{Table}
 use Rattle.hg_streams.specs.declared.call.ReadCall.{ReadCall}

@@ -1,4 +1,4 @@
-use Rattle.std.proofs.Common.{◌≡◌, [], ◌∷◌, subst}
+use Rattle.std.proofs.Common.{[], ◌∷◌, subst}
 use Rattle.hg_model.specs.declared.event.Event.{Event}
 use Rattle.hg_parts.specs.Stopping.{reading_at}
 use Rattle.hg_parts.specs.Taking.{TakesLines}
