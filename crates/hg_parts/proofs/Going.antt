@@ -1,6 +1,6 @@
 -- What lines lead to where one detector accepts them.
-use Rattle.std.proofs.Common.{◌≡◌, ℕ, suc, ◌+◌, ◌<◌, ◌≤◌, ◌^◌, List, [], ◌∷◌, ◌++◌, length, take, map, reverse, slice_get, Option, Some, None, Result, Ok, Err, refl, sym, ap, ◌∙◌, subst, inl, inr, ⊎_elim, arith}
-use Rattle.std.proofs.lemmas.List.{append-nil, append_assoc, length-append, map-append}
+use Rattle.std.proofs.Common.{◌≡◌, ℕ, suc, ◌+◌, List, [], ◌∷◌, ◌++◌, length, take, map, slice_get, Option, Some, None, Result, Ok, Err, refl, sym, ap, ◌∙◌, subst, inl, inr, ⊎_elim, arith}
+use Rattle.std.proofs.lemmas.List.{append-nil, map-append}
 use Rattle.hg_model.specs.declared.event.Event.{Event}
 use Rattle.hg_model.specs.declared.event.Named.{Named}
 use Rattle.hg_model.specs.declared.verdict.Refusal.{Refusal}
@@ -8,26 +8,26 @@ use Rattle.hg_model.specs.declared.verdict.Verdict.{Verdict}
 use Rattle.hg_model.specs.declared.verdict.Verdict.TheVariants.{Accept}
 use Rattle.hg_model.specs.Contents.{Content}
 use Rattle.hg_model.specs.Change.{after}
-use Rattle.hg_model.specs.Verdicts.{standing_of, verdict}
+use Rattle.hg_model.specs.Verdicts.{standing_of}
 use Rattle.hg_sets.specs.Interning.{Table}
 use Rattle.hg_detect.specs.Making.{sets_asked}
 use Rattle.hg_detect.proofs.Asking.{asks_not_both, asks_same}
 use Rattle.hg_wire.specs.declared.line.LineFault.{LineFault}
 use Rattle.hg_wire.specs.declared.reader.Reading.{Reading}
 use Rattle.hg_reading.specs.declared.ending.Ending.{Ending}
-use Rattle.hg_reading.specs.declared.ending.Ending.TheVariants.{Bad, Ended, Refused}
+use Rattle.hg_reading.specs.declared.ending.Ending.TheVariants.{Bad, Refused}
 use Rattle.hg_shards.specs.declared.judge.Judge.{Judge}
 use Rattle.hg_shards.specs.declared.shards.Cause.{Cause}
 use Rattle.hg_shards.specs.declared.shards.Cause.TheVariants as causes
 use Rattle.hg_shards.specs.declared.shards.Stop.{Stop}
 use Rattle.hg_shards.specs.Following.{named}
-use Rattle.hg_shards.specs.Judging.{Accepts, HasReports, IsAt, LeadsBy, StopsAt, StopsFor}
+use Rattle.hg_shards.specs.Judging.{Accepts, HasReports, LeadsBy, StopsAt, StopsFor}
 use Rattle.hg_check.specs.Checking.{Answered, IsRead, LeadsTo, next_named}
 use Rattle.hg_check.proofs.Steps.{never_duplicate}
 use Rattle.hg_parts.specs.declared.line.EventLine.{EventLine}
 use Rattle.hg_parts.proofs.Numbers.{behind}
 use Rattle.hg_parts.specs.GoingLaws.{counts_on, events_at}
-use Rattle.hg_parts.specs.Going.{At, Comes, Goes, Passes, PassesOne, Stops}
+use Rattle.hg_parts.specs.Going.{At, Goes, Passes, PassesOne, Stops}
 
 -- ---- what follows lines that are accepted
 

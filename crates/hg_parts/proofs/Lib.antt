@@ -4,3 +4,4 @@ pub mod Going
 mod Offering
 mod Taking
 mod Sinking
+mod Ending

@@ -1,11 +1,11 @@
 -- One line more in a queue.
-use Rattle.std.proofs.Common.{◌≡◌, ℕ, ◌+◌, ◌<◌, ◌≤◌, cond, nat_lt, List, [], ◌∷◌, ◌++◌, Ok, refl, sym, ap, ◌∙◌, subst, arith}
+use Rattle.std.proofs.Common.{◌≡◌, ℕ, ◌+◌, ◌<◌, cond, nat_lt, List, [], ◌∷◌, ◌++◌, Ok, sym, ap, ◌∙◌, arith}
 use Rattle.std.proofs.lemmas.Bool.{lt-ltb}
 use Rattle.std.proofs.lemmas.List.{append-nil, append_assoc}
 use Rattle.hg_model.specs.declared.event.Event.{Event}
 use Rattle.hg_wire.specs.declared.reader.Reading.{Reading}
 use Rattle.hg_reading.specs.declared.queued.Queued.{Queued}
-use Rattle.hg_reading.specs.Queueing.{IsLineOf, Lines, lines_of, lines_queued, more_lines, one, reading_queued, readings_behind}
+use Rattle.hg_reading.specs.Queueing.{IsLineOf, Lines, lines_of, lines_queued, more_lines, reading_queued, readings_behind}
 use Rattle.hg_reading.proofs.Queueing.{behind_more}
 use Rattle.hg_parts.specs.declared.line.EventLine.{EventLine}
 use Rattle.hg_parts.specs.Batches.{readings_in}

@@ -1,5 +1,5 @@
 -- What a judge takes of lines, and what it prints.
-use Rattle.std.proofs.Common.{◌≡◌, ℕ, suc, ◌+◌, ◌<◌, ◌≤◌, ◌^◌, Bool, true, false, List, [], ◌∷◌, ◌++◌, length, map, take, Option, None, Some, Result, Ok, Err, IfErr, IfOk, OnErr, OnOk, ◌⊎◌, refl, sym, ap, ◌∙◌, subst, inl, inr, ⊎_elim, arith}
+use Rattle.std.proofs.Common.{◌≡◌, ℕ, suc, ◌+◌, ◌<◌, ◌≤◌, ◌^◌, Bool, true, List, [], ◌∷◌, ◌++◌, length, map, take, Option, None, Some, Result, Ok, Err, IfErr, IfOk, OnErr, OnOk, ◌⊎◌, refl, sym, ap, ◌∙◌, subst, inl, inr, ⊎_elim, arith}
 use Rattle.std.specs.Bool.{⊤}
 use Rattle.std.proofs.lemmas.List.{append-nil, append_assoc, length-append, length-take, length_push}
 use Rattle.hg_model.specs.declared.event.Event.{Event}
@@ -34,14 +34,13 @@ use Rattle.hg_check.specs.Running.{HasFew, ReportsGrow}
 use Rattle.hg_check.proofs.Growing.{live_text_grows}
 use Rattle.hg_check.proofs.Sinking.{memory_alone, none_failed}
 use Rattle.hg_check.proofs.Steps.{leads_grow}
-use Rattle.hg_parts.specs.declared.batch.Batch.{Batch}
 use Rattle.hg_parts.specs.declared.checking.PartsChecking.{PartsChecking}
 use Rattle.hg_parts.specs.declared.line.EventLine.{EventLine}
 use Rattle.hg_parts.specs.Batches.{reading_of, readings_in}
-use Rattle.hg_parts.specs.Going.{At, Comes as GoesBy, Goes, GoesFrom, Passes, Stops}
+use Rattle.hg_parts.specs.Going.{At, Comes as GoesBy, Goes, GoesFrom, Passes}
 use Rattle.hg_parts.specs.Holding.{HasLine, parts_of_batch, readings_held}
 use Rattle.hg_parts.specs.Stopping.{bad_at, reading_at}
-use Rattle.hg_parts.specs.Taking.{Comes, HasPrinted, HasPrintedAll, IsFit, MayTake, PrintedNext, PrintsAllOf, TakesLines, TakesQuietly, Tells, pending}
+use Rattle.hg_parts.specs.Taking.{HasPrinted, HasPrintedAll, MayTake, PrintedNext, PrintsAllOf, TakesLines, TakesQuietly, Tells, pending}
 use Rattle.hg_parts.specs.TakingLaws.{takes_on, takes_room}
 use Rattle.hg_parts.proofs.Going.{leads_behind, stops_bad}
 

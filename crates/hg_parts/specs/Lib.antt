@@ -8,3 +8,4 @@ pub mod GoingLaws
 pub mod Stopping
 pub mod Taking
 pub mod TakingLaws
+pub mod Running

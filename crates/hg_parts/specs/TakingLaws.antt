@@ -1,6 +1,6 @@
 -- The laws of a judge that checks a trace text.
-use Rattle.std.specs.Prelude.{◌≡◌, ℕ, ◌+◌, ◌<◌, ◌^◌, List, [], ◌++◌, length, Option, None, Result, Ok, Err, refl}
-use Rattle.std.proofs.Common.{sym, ap, ◌∙◌, arith, inl, inr, ⊎_elim}
+use Rattle.std.specs.Prelude.{◌≡◌, ℕ, ◌+◌, List, [], ◌++◌, length, Option, None, Result, Ok, Err, refl}
+use Rattle.std.proofs.Common.{sym, ap, ◌∙◌, arith}
 use Rattle.std.proofs.lemmas.List.{append-nil, append_assoc, length-append}
 use Rattle.hg_model.specs.declared.verdict.Refusal.{Refusal}
 use Rattle.hg_model.specs.Contents.{Content}
@@ -10,7 +10,6 @@ use Rattle.hg_streams.specs.declared.call.WriteCall.{WriteCall}
 use Rattle.hg_reading.specs.declared.ending.Ending.{Ending}
 use Rattle.hg_check.specs.TakingLaws.{cause_on}
 use Rattle.hg_parts.specs.declared.checking.PartsChecking.{PartsChecking}
-use Rattle.hg_parts.specs.Going.{At, Goes, Passes}
 use Rattle.hg_parts.specs.Taking.{Comes, MayTake, TakesLines, pending}
 use Rattle.hg_parts.specs.GoingLaws.{counts_on, events_at, passes_on}
 

@@ -3,7 +3,11 @@
 
 pub mod batch;
 pub mod checking;
+pub mod commands;
 mod judging;
+mod last_line;
 pub mod line;
 pub mod queue;
+mod run;
 pub mod runs;
+mod sink;

@@ -1,4 +1,4 @@
-use Rattle.std.proofs.Common.{◌≡◌, ◌+◌, [], ◌∷◌, None, Some, ap, subst}
+use Rattle.std.proofs.Common.{◌+◌, ap, subst}
 use Rattle.hg_shards.specs.Judging.{JudgesRoutes}
 use Rattle.hg_parts.proofs.Offering.{batch_passed, batch_stopped, stop_no_duplicate, stop_within}
 use Rattle.hg_parts.proofs.judging.judge_batch.Goals as goal

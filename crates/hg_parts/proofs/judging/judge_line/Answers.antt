@@ -1,4 +1,4 @@
-use Rattle.std.proofs.Common.{◌≡◌, ◌+◌, [], ◌∷◌, None, Some, ap, subst}
+use Rattle.std.proofs.Common.{◌+◌, [], ◌∷◌, ap, subst}
 use Rattle.hg_shards.specs.Judging.{Judges}
 use Rattle.hg_parts.proofs.Offering.{line_no_duplicate, line_passed, line_stopped}
 use Rattle.hg_parts.proofs.judging.judge_line.Goals as goal

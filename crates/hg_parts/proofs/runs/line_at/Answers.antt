@@ -1,4 +1,4 @@
-use Rattle.std.proofs.Common.{◌≡◌, ◌+◌, ◌-◌, ◌<◌, ◌≤◌, ◌^◌, length, take, slice_index_or, rules, arith, sym, ◌∙◌}
+use Rattle.std.proofs.Common.{◌≡◌, ◌+◌, ◌-◌, ◌<◌, ◌^◌, slice_index_or, rules, arith, sym, ◌∙◌}
 use Rattle.hg_parts.specs.Numbers.{number_at}
 use Rattle.hg_parts.proofs.Numbers.{found_here, passed_over}
 use Rattle.hg_parts.proofs.runs.line_at.Goals as goal

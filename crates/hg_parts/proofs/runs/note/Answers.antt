@@ -1,4 +1,4 @@
-use Rattle.std.proofs.Common.{◌+◌, ◌-◌, length, arith}
+use Rattle.std.proofs.Common.{◌-◌, arith}
 use Rattle.hg_parts.proofs.Numbers.{noted_new, noted_on}
 use Rattle.hg_parts.proofs.runs.note.Goals as goal
 

@@ -1,4 +1,4 @@
-use Rattle.std.proofs.Common.{◌≡◌, ◌∙◌, sym, eqb-true}
+use Rattle.std.proofs.Common.{◌∙◌, sym, eqb-true}
 use Rattle.hg_parts.proofs.Numbers.{no_readings, placed_last}
 use Rattle.hg_parts.proofs.batch.Batch.is_empty.Goals as goal
 

@@ -1,4 +1,4 @@
-use Rattle.std.proofs.Common.{◌≡◌, ◌≤◌, refl, sym, ◌∙◌, arith}
+use Rattle.std.proofs.Common.{refl, ◌∙◌, arith}
 use Rattle.hg_parts.specs.declared.line.EventLine.{EventLine}
 use Rattle.hg_parts.proofs.Numbers.{numbers_more, placed_last, routed_more}
 use Rattle.hg_parts.proofs.batch.Batch.push.Goals as goal

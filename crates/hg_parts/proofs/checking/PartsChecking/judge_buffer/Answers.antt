@@ -1,4 +1,4 @@
-use Rattle.std.proofs.Common.{◌≡◌, [], map, Ok, None, Some, Err, refl, sym, ap, subst, arith}
+use Rattle.std.proofs.Common.{[], map, Ok, None, Some, Err, refl, sym, ap, subst, arith}
 use Rattle.hg_wire.specs.Streams.{numbered_on}
 use Rattle.hg_parts.specs.Batches.{readings_in}
 use Rattle.hg_parts.specs.Going.{GoesFrom}

@@ -1,4 +1,4 @@
-use Rattle.std.proofs.Common.{◌≡◌, [], ◌∷◌, ◌∙◌, length, map, Ok, None, Some, Err, refl, sym, ap, subst}
+use Rattle.std.proofs.Common.{[], ◌∷◌, refl}
 use Rattle.hg_parts.specs.Stopping.{reading_at}
 use Rattle.hg_parts.proofs.Taking.{takes_at_once, takes_pushed}
 use Rattle.hg_parts.proofs.checking.PartsChecking.offer_alone.Goals as goal

@@ -1,4 +1,4 @@
-use Rattle.std.proofs.Common.{◌≡◌, [], ◌∷◌, ◌∙◌, length, map, Ok, None, Some, Err, refl, sym, ap, subst}
+use Rattle.std.proofs.Common.{[], ◌∷◌, ◌∙◌, Ok, Some, Err, ap, subst}
 use Rattle.hg_reading.specs.declared.ending.Ending.TheVariants.{Bad}
 use Rattle.hg_parts.specs.Stopping.{bad_at}
 use Rattle.hg_parts.proofs.Taking.{no_fault, no_stop, takes_after, takes_bad, takes_behind}

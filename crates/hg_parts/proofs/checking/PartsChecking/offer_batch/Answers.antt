@@ -1,4 +1,4 @@
-use Rattle.std.proofs.Common.{◌≡◌, [], ◌∷◌, ◌∙◌, length, map, Ok, None, Some, Err, refl, sym, ap, subst}
+use Rattle.std.proofs.Common.{[], ◌∙◌, length, map, Ok, Some, Err, refl, ap, subst}
 use Rattle.hg_wire.specs.Streams.{numbered_on}
 use Rattle.hg_parts.specs.Holding.{readings_held}
 use Rattle.hg_parts.specs.Taking.{pending}

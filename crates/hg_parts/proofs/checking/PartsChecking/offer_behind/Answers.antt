@@ -1,4 +1,4 @@
-use Rattle.std.proofs.Common.{◌≡◌, [], ◌∷◌, ◌∙◌, length, map, Ok, None, Some, Err, refl, sym, ap, subst}
+use Rattle.std.proofs.Common.{[], ◌∷◌, Ok, Some, Err, subst}
 use Rattle.hg_parts.specs.Stopping.{reading_at}
 use Rattle.hg_parts.proofs.Taking.{may_mid, no_fault, no_stop, takes_after, takes_behind}
 use Rattle.hg_parts.specs.Taking.{TakesQuietly}

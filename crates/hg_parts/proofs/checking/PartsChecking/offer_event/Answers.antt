@@ -1,4 +1,4 @@
-use Rattle.std.proofs.Common.{◌≡◌, [], ◌∷◌, ◌∙◌, length, map, Ok, None, Some, Err, refl, sym, ap, subst}
+use Rattle.std.proofs.Common.{[], ◌∷◌, refl, subst}
 use Rattle.hg_parts.specs.declared.batch.Batch.{Batch}
 use Rattle.hg_parts.specs.Stopping.{reading_at}
 use Rattle.hg_parts.specs.Taking.{TakesQuietly}

@@ -1,4 +1,4 @@
-use Rattle.std.proofs.Common.{◌≡◌, ◌≤◌, ◌+◌, [], false, true, refl, sym, ap, ◌∙◌, subst, arith}
+use Rattle.std.proofs.Common.{[], refl, subst, arith}
 use Rattle.hg_streams.specs.Texts.{reports_text}
 use Rattle.hg_parts.specs.Taking.{PrintedNext}
 use Rattle.hg_parts.proofs.Taking.{all_read, reports_still, rests_on, written_all}

@@ -1,4 +1,4 @@
-use Rattle.std.proofs.Common.{◌≡◌, ◌+◌, [], None, Some, refl, subst}
+use Rattle.std.proofs.Common.{[], refl, subst}
 use Rattle.hg_shards.specs.Judging.{NextReport}
 use Rattle.hg_streams.specs.Texts.{reports_text}
 use Rattle.hg_parts.proofs.Taking.{front_now, is_next, printed_all, prints_next}

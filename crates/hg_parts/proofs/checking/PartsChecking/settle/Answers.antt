@@ -1,4 +1,4 @@
-use Rattle.std.proofs.Common.{◌≡◌, [], Ok, None, Some, Err, subst}
+use Rattle.std.proofs.Common.{[], Ok, None, Err, subst}
 use Rattle.hg_parts.specs.Taking.{TakesQuietly}
 use Rattle.hg_parts.specs.TakingLaws.{takes_on}
 use Rattle.hg_parts.proofs.Taking.{print_err, print_ok}
