@@ -106,41 +106,44 @@ module _ {D : Type 0} (g : disk.Ghosts D) where
       → (IsTrue g.is_honest → followed (live g s) events ≡ Some (live g m)) → (IsTrue g.is_honest → Backs g s → followed (saved g s) more ≡ Some (saved g m))
       → (IsTrue g.is_honest → Backs g s → EachImage g s.devices m.devices (Stands (saved g s) (live g s) doubt)) → (IsTrue g.is_honest → Backs g m)
       → KeepsLimits s m → later ≡ moment ∷ moments → (step : Step) (answer : StepResult) → moment ≡ instant_behind (made s step answer) m calls → Makes g s m step answer → KeepsOn g s calls moments m calls later
-  keeps_step s m calls moments later moment doubt events more leads durable images backs same pushed step answer is makes = (λ start limits first honest h.
-      let mid = instant_behind (made s step answer) m calls in
-      let has : limits_of m ≡ limits = limits_stay s m same ∙ h.has in
-      let front = h.front ++ more in
-      let next = durable honest h.backs in
-      let before : followed first front ≡ Some (saved g m) = followed_append h.front more first (saved g s) h.before ∙ next in
-      let acked =
-      given_weaker (AcksAtMost (saved g s).events) (AcksAtMost (saved g m).events) start.calls calls (λ text. acks_more (saved g s).events (saved g m).events text (omega (arith, followed_events more (saved g s) (saved g m) next))) h.acked in
-      let between : IsKeptBetween g first (live g s) start.calls h.newest mid = record {
-        later = h.along.0.later;
-        since = h.along.0.since;
-        count = (saved g s).events;
-        acked = h.acked;
-        each = subst (λ (x : Devices D). EachImage g x m.devices (HasAtLeast first (live g s) (saved g s).events)) h.still
-            (each_weaker s.devices m.devices (Stands (saved g s) (live g s) doubt) (HasAtLeast first (live g s) (saved g s).events)
-            (λ image on. stands_on first (saved g s) (live g s) doubt h.front s.pending image h.before h.backs.live on) (images honest h.backs));
-      } in
-      record {
-        backs = backs honest;
-        front = front;
-        before = before;
-        acked = acked;
-        newest = mid;
-        earlier = moments;
-        is = pushed ∙ ap (λ x. x ∷ moments) is;
-        still = refl;
-        along = (
-          standing m calls start mid first front (backs honest) before acked refl ([], refl),
-          along_more first (live g s) (live g m) events start moments mid (leads honest)
-              (subst (λ (t : List (Instant D)). IsKeptAlong g first (live g s) start t mid) (sym h.is) (between, h.along.1)),
-        );
-        has = has;
-        had = subst (λ (t : List (Instant D)). All (HasLimits limits) t) (sym (pushed ∙ ap (λ x. x ∷ moments) is))
-            (All-cons (HasLimits limits) mid moments (ap (λ (l : Limits). Some l) has) h.had);
-      }, λ first along. made_then g first s m (made_at moments) (made_at later) step answer (ap made_at (pushed ∙ ap (λ x. x ∷ moments) is)) makes backs along)
+  keeps_step s m calls moments later moment doubt events more leads durable images backs same pushed step answer is makes = (
+    λ start limits first honest h.
+        let mid = instant_behind (made s step answer) m calls in
+        let has : limits_of m ≡ limits = limits_stay s m same ∙ h.has in
+        let front = h.front ++ more in
+        let next = durable honest h.backs in
+        let before : followed first front ≡ Some (saved g m) = followed_append h.front more first (saved g s) h.before ∙ next in
+        let acked =
+        given_weaker (AcksAtMost (saved g s).events) (AcksAtMost (saved g m).events) start.calls calls (λ text. acks_more (saved g s).events (saved g m).events text (omega (arith, followed_events more (saved g s) (saved g m) next))) h.acked in
+        let between : IsKeptBetween g first (live g s) start.calls h.newest mid = record {
+          later = h.along.0.later;
+          since = h.along.0.since;
+          count = (saved g s).events;
+          acked = h.acked;
+          each = subst (λ (x : Devices D). EachImage g x m.devices (HasAtLeast first (live g s) (saved g s).events)) h.still
+              (each_weaker s.devices m.devices (Stands (saved g s) (live g s) doubt) (HasAtLeast first (live g s) (saved g s).events)
+              (λ image on. stands_on first (saved g s) (live g s) doubt h.front s.pending image h.before h.backs.live on) (images honest h.backs));
+        } in
+        record {
+          backs = backs honest;
+          front = front;
+          before = before;
+          acked = acked;
+          newest = mid;
+          earlier = moments;
+          is = pushed ∙ ap (λ x. x ∷ moments) is;
+          still = refl;
+          along = (
+            standing m calls start mid first front (backs honest) before acked refl ([], refl),
+            along_more first (live g s) (live g m) events start moments mid (leads honest)
+                (subst (λ (t : List (Instant D)). IsKeptAlong g first (live g s) start t mid) (sym h.is) (between, h.along.1)),
+          );
+          has = has;
+          had = subst (λ (t : List (Instant D)). All (HasLimits limits) t) (sym (pushed ∙ ap (λ x. x ∷ moments) is))
+              (All-cons (HasLimits limits) mid moments (ap (λ (l : Limits). Some l) has) h.had);
+        },
+    λ first along. made_then g first s m (made_at moments) (made_at later) step answer (ap made_at (pushed ∙ ap (λ x. x ∷ moments) is)) makes backs along,
+  )
 
   -- an event was offered
   pub keeps_offer : (s m : ShownStore D) (calls : List WriteCall) (moments later : List (Instant D)) (moment : Instant D) (n : Named) (r : Result Answer Refusal) → OfferDone g s m n r → (IsTrue g.is_honest → ContentOffered g s m n r)
@@ -182,24 +185,27 @@ module _ {D : Type 0} (g : disk.Ghosts D) where
   -- a text was printed that acknowledges no more than what is durable
   pub keeps_printed : (s : ShownStore D) (calls new : List WriteCall) (moments : List (Instant D)) (text : List ℕ) → IsPrintedNow calls new text
       → (IsTrue g.is_honest → Backs g s → AcksAtMost (saved g s).events text) → KeepsOn g s calls moments s new moments
-  keeps_printed s calls new moments text printed says = (λ start limits first honest h.
-      let acked = given_printed (AcksAtMost (saved g s).events) start.calls calls new text printed (says honest h.backs) (inr (inl refl)) h.acked in
-      record {
-        backs = h.backs;
-        front = h.front;
-        before = h.before;
-        acked = acked;
-        newest = h.newest;
-        earlier = h.earlier;
-        is = h.is;
-        still = h.still;
-        along = (
-          standing s new start h.newest first h.front h.backs h.before acked h.still (grows h.newest.calls calls new text printed (h.along.0.later, h.along.0.since)),
-          h.along.1,
-        );
-        has = h.has;
-        had = h.had;
-      }, λ first along. along)
+  keeps_printed s calls new moments text printed says = (
+    λ start limits first honest h.
+        let acked = given_printed (AcksAtMost (saved g s).events) start.calls calls new text printed (says honest h.backs) (inr (inl refl)) h.acked in
+        record {
+          backs = h.backs;
+          front = h.front;
+          before = h.before;
+          acked = acked;
+          newest = h.newest;
+          earlier = h.earlier;
+          is = h.is;
+          still = h.still;
+          along = (
+            standing s new start h.newest first h.front h.backs h.before acked h.still (grows h.newest.calls calls new text printed (h.along.0.later, h.along.0.since)),
+            h.along.1,
+          );
+          has = h.has;
+          had = h.had;
+        },
+    λ first along. along,
+  )
 
   -- what a commit counts is durable
   pub ack_enough : (s m : ShownStore D) (count : ℕ) → CommitDone g s m (Ok count) → AcksAtMost (saved g m).events (ack_text count)

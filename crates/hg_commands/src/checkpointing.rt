@@ -58,8 +58,7 @@ impl<D: Disk, W> Feeding<D, W> {
     {
         self.store.stands();
         let made = MadeStep::of(began, step, answer);
-        self.moments
-            .push(Moment::behind(made, &self.store, output));
+        self.moments.push(Moment::behind(made, &self.store, output));
         match done {
             Ok(answer) => Ok(answer),
             Err(fault) => Err(refusal_of(fault)),
@@ -216,13 +215,8 @@ impl<D: Disk, W> Feeding<D, W> {
         let began = Snapshot::of(&self.store);
         let retired = self.store.retire();
         self.store.stands();
-        let made = MadeStep::of(
-            began,
-            &Step::Retire,
-            &StepResult::Retired(retired),
-        );
-        self.moments
-            .push(Moment::behind(made, &self.store, output));
+        let made = MadeStep::of(began, &Step::Retire, &StepResult::Retired(retired));
+        self.moments.push(Moment::behind(made, &self.store, output));
         retired
     }
 

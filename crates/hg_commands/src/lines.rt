@@ -66,11 +66,7 @@ impl<D: Disk, W: Write> Feeding<D, W> {
         let began = Snapshot::of(&self.store);
         let committed = self.store.commit();
         self.store.stands();
-        let made = MadeStep::of(
-            began,
-            &Step::Commit,
-            &StepResult::Committed(committed),
-        );
+        let made = MadeStep::of(began, &Step::Commit, &StepResult::Committed(committed));
         self.moments
             .push(Moment::behind(made, &self.store, &*output));
         print_number(b"ack ", committed?, output)
@@ -108,8 +104,7 @@ impl<D: Disk, W: Write> Feeding<D, W> {
         self.store.stands();
         let step = Step::Offer(named_of(self.fed.source, self.fed.number, parts));
         let made = MadeStep::of(began, &step, &StepResult::Offered(answer));
-        self.moments
-            .push(Moment::behind(made, &self.store, output));
+        self.moments.push(Moment::behind(made, &self.store, output));
         answer
     }
 

@@ -255,11 +255,7 @@ impl<D: Disk, A: Opening, B: Column> Core<D, A, B> {
         let began = Snapshot::of(&self.store);
         let answer = offer_to(&mut self.store, named);
         self.store.stands();
-        let made = MadeStep::of(
-            began,
-            &Step::Offer(*named),
-            &StepResult::Offered(answer),
-        );
+        let made = MadeStep::of(began, &Step::Offer(*named), &StepResult::Offered(answer));
         self.steps.push(made);
         let _more = self.store.events();
         note_accepted(
@@ -279,11 +275,7 @@ impl<D: Disk, A: Opening, B: Column> Core<D, A, B> {
         let began = Snapshot::of(&self.store);
         let answer = self.store.commit();
         self.store.stands();
-        let made = MadeStep::of(
-            began,
-            &Step::Commit,
-            &StepResult::Committed(answer),
-        );
+        let made = MadeStep::of(began, &Step::Commit, &StepResult::Committed(answer));
         self.steps.push(made);
         let _more = self.store.events();
         note_durable(

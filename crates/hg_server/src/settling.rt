@@ -43,11 +43,7 @@ fn commit_all<D: Disk>(
     let began = Snapshot::of(&*store);
     let committed = store.commit();
     store.stands();
-    let made = MadeStep::of(
-        began,
-        &Step::Commit,
-        &StepResult::Committed(committed),
-    );
+    let made = MadeStep::of(began, &Step::Commit, &StepResult::Committed(committed));
     steps.push(made);
     match committed {
         Ok(_) => Ok(()),

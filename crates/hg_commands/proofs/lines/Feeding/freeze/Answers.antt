@@ -16,17 +16,21 @@ note_step-requires-clause-made g c =
     let e = c.freeze-done.ensures in
     let r = c.freeze-done.result in
     subst (λ (s : ShownStore g.row.D.Denot). Makes g.D.Disk s c.freeze-done.new.self step.Freeze (told.Frozen r)) (sym c.of-began.ensures) (record {
-      done = (r, refl, record {
-        done = e.done;
-        last = e.last;
-        number = e.number;
-        frozen = e.frozen;
-        turned = e.turned;
-        current = e.current;
-        counted = e.counted;
-        slots = e.slots;
-        roots = e.roots;
-      });
+      done = (
+        r,
+        refl,
+        record {
+          done = e.done;
+          last = e.last;
+          number = e.number;
+          frozen = e.frozen;
+          turned = e.turned;
+          current = e.current;
+          counted = e.counted;
+          slots = e.slots;
+          roots = e.roots;
+        },
+      );
       failures = e.device;
       content = λ honest. (r, refl, record { live = e.live honest; undamaged = e.undamaged honest });
       images = λ honest. e.images honest;

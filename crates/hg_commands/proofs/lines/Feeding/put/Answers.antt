@@ -14,18 +14,22 @@ note_step-requires-clause-made g c =
     let e = c.put-done.ensures in
     let r = c.put-done.result in
     subst (λ (s : ShownStore g.row.D.Denot). Makes g.D.Disk s c.put-done.new.self (step.Put c.args.page) (told.Put r)) (sym c.of-began.ensures) (record {
-      done = (r, refl, record {
-        done = e.done;
-        written = e.written;
-        stale = e.stale;
-        nothing = e.nothing;
-        waiting = e.waiting;
-        roots = e.roots;
-        journals = e.journals;
-        counted = e.counted;
-        progress = e.progress;
-        frozen = e.frozen;
-      });
+      done = (
+        r,
+        refl,
+        record {
+          done = e.done;
+          written = e.written;
+          stale = e.stale;
+          nothing = e.nothing;
+          waiting = e.waiting;
+          roots = e.roots;
+          journals = e.journals;
+          counted = e.counted;
+          progress = e.progress;
+          frozen = e.frozen;
+        },
+      );
       failures = e.device;
       content = λ honest. e.live honest;
       images = λ honest. e.images honest;
