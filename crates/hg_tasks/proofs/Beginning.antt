@@ -9,7 +9,7 @@ use Rattle.hg_disk.specs.declared.disk.Disk as disk
 use Rattle.hg_check.specs.Running.{HasRoom}
 use Rattle.hg_recovery.specs.Answers.{CountedBy, IsOfRoots}
 use Rattle.hg_root.specs.Finding.{WasRead}
-use Rattle.hg_saved.specs.Disks.{HasNoneSaved, failures}
+use Rattle.hg_saved.specs.Disks.{HasNoneSaved, ReadsWereTrue, failures}
 use Rattle.hg_saved.specs.Saved.{IsNumbered, Stays}
 use Rattle.hg_saved.specs.declared.saved.CheckpointDisks.{CheckpointDisks}
 use Rattle.hg_store.specs.Refusals.{IsNotOpened}
@@ -26,13 +26,13 @@ module _ {D : Type 0} (g : disk.Ghosts D) (devices : Devices D) (disks : Checkpo
   were_read read are = record { disks = disks; slots = slots; first = first; second = second; are = are }
 
   -- The content was not had.
-  pub not_saved : (left : Devices D) (r : Refusal) → IsOfRoots r → (IsTrue g.is_honest → r ≡ Damaged → HasNoneSaved g (disks_of devices)) → CountedBy r (failures g (disks_of devices)) (failures g disks)
+  pub not_saved : (left : Devices D) (r : Refusal) → IsOfRoots r → (ReadsWereTrue g disks → r ≡ Damaged → HasNoneSaved g (disks_of devices)) → CountedBy r (failures g (disks_of devices)) (failures g disks)
       → HasDisks devices.journal0 devices.journal1 disks left → IsNotBegun g devices left r
   not_saved left r is damaged failed are = inl (record {
     is = is;
-    damaged = damaged;
     failed = subst (λ (d : Devices D). CountedBy r (failures g (disks_of devices)) (failures g (disks_of d))) (sym are) failed;
     were_read = were_read left are;
+    damaged = damaged;
   })
 
   -- It was, and the store was not opened.

@@ -14,7 +14,7 @@ use Rattle.hg_detect.specs.declared.detector.Detector.{Detector}
 use Rattle.hg_detect.specs.Memory.{content_of}
 use Rattle.hg_root.specs.Finding.{WasRead}
 use Rattle.hg_recovery.specs.Answers.{CountedBy, IsOfRoots}
-use Rattle.hg_saved.specs.Disks.{HasNoneSaved, IsSavedOn, failures}
+use Rattle.hg_saved.specs.Disks.{HasNoneSaved, IsSavedOn, ReadsWereTrue, failures}
 use Rattle.hg_saved.specs.Saved.{Stays}
 use Rattle.hg_saved.specs.declared.saved.CheckpointDisks.{CheckpointDisks}
 use Rattle.hg_store.specs.Recovering.{IsRecovered}
@@ -101,21 +101,21 @@ module _ {D : Type 0} (g : disk.Ghosts D) where
     pub second : WasRead g devices.root1 disks.root1
     pub are : HasDisks devices.journal0 devices.journal1 disks read
 
-  -- The detector has the content of the newest checkpoint of the devices, and the store was recovered of them, whose slots and roots were read
-  -- meanwhile.
+  -- The detector has the content of the newest checkpoint of the devices, if the reads of their slots and roots were true, and the store was
+  -- recovered of them then.
   pub record IsSavedAndRecovered (devices : Devices D) (detector : Detector PagedWords) (store : ShownStore D) : Type 0 where
-    pub saved : IsTrue g.is_honest → IsSavedOn g (disks_of devices) (content_of detector)
     pub read : Devices D
     pub were_read : WereRead devices read
+    pub saved : ReadsWereTrue g were_read.disks → IsSavedOn g (disks_of devices) (content_of detector)
     pub recovered : IsTrue g.is_honest → IsRecovered g read store
 
-  -- Why the content of the newest checkpoint was not had. `Damaged`: honest devices have no checkpoint, and their roots are not both closed.
+  -- Why the content of the newest checkpoint was not had. `Damaged`: the devices have no checkpoint, and their roots are not both closed, if their reads were true.
   -- `DeviceFault` exactly if a call failed. Want of memory may be told at any time.
   pub record IsNotSaved (devices left : Devices D) (r : Refusal) : Type 0 where
     pub is : IsOfRoots r
-    pub damaged : IsTrue g.is_honest → r ≡ Damaged → HasNoneSaved g (disks_of devices)
     pub failed : CountedBy r (failures g (disks_of devices)) (failures g (disks_of left))
     pub were_read : WereRead devices left
+    pub damaged : ReadsWereTrue g were_read.disks → r ≡ Damaged → HasNoneSaved g (disks_of devices)
 
   -- It was had, without a failed call, and then the store was not opened.
   pub record IsSavedNotOpened (devices left : Devices D) (r : Refusal) : Type 0 where

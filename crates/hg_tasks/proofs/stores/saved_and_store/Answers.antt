@@ -11,9 +11,9 @@ pub returns-in-Ok-recover-clause-saved : goal.returns-in-Ok-recover-clause-saved
 returns-in-Ok-recover-clause-saved g c =
     let e = c.in-Ok.ensures in
     record {
-      saved = e.content;
       read = c.devices_with-devices.result;
       were_read = were_read g.D.Disk c.args.devices c.in-Ok.found.1 e.slots e.first e.second c.devices_with-devices.result c.devices_with-devices.ensures;
+      saved = e.content;
       recovered = c.in-Ok-recover.ensures.content;
     }
 
