@@ -15,15 +15,17 @@ use Rattle.hg_store.specs.Store.{Backs}
 abbrev pub LeadsTo : Content → Content → Type 0
 LeadsTo first last = (events : List Named) × (followed first events ≡ Some last)
 
--- A device of any kind at one moment: its state, the states before each call so far, the newest first, and how many calls have failed.
+-- A device of any kind at one moment: its state, the states before each call so far, the newest first, how many calls have failed, and
+-- whether its reads so far were true.
 pub record Point : Type 0 where
   pub state : DiskState
   pub past : List DiskState
   pub failures : ℕ
+  pub reads_were_true : Bool
 
 -- points, seen as devices
 abbrev pub of_points : Bool → disk.Ghosts Point
-of_points is_honest = record { is_honest = is_honest; state = λ p. p.state; past = λ p. p.past; failures = λ p. p.failures }
+of_points is_honest = record { is_honest = is_honest; state = λ p. p.state; past = λ p. p.past; failures = λ p. p.failures; reads_were_true = λ p. p.reads_were_true }
 
 -- A store at the opening of the lock: its devices, its content with all accepted events, its durable content, and whether it was broken.
 pub record Began : Type 0 where
@@ -43,7 +45,7 @@ moments_of steps = map (λ m. m.began.devices) steps
 
 module _ {D : Type 0} (g : disk.Ghosts D) where
   abbrev pub point_of : D → Point
-  point_of d = record { state = g.state d; past = g.past d; failures = g.failures d }
+  point_of d = record { state = g.state d; past = g.past d; failures = g.failures d; reads_were_true = g.reads_were_true d }
 
   abbrev pub points_of : Devices D → Devices Point
   points_of devices = record { journal0 = point_of devices.journal0; journal1 = point_of devices.journal1; slots = point_of devices.slots; root0 = point_of devices.root0; root1 = point_of devices.root1 }
