@@ -22,7 +22,7 @@ has_room d few = let last = few.last 0 in let most = few.events in omega (arith,
 
 module _ {D : Type 0} (g : disk.Ghosts D) (devices : Devices D) (disks : CheckpointDisks D) (slots : Stays g devices.slots disks.slots) (first : WasRead g devices.root0 disks.root0) (second : WasRead g devices.root1 disks.root1) where
   -- the slots and the roots were read
-  pub were_read : (read : Devices D) → HasDisks devices.journal0 devices.journal1 disks read → WereRead g devices read
+  abbrev pub were_read : (read : Devices D) → HasDisks devices.journal0 devices.journal1 disks read → WereRead g devices read
   were_read read are = record { disks = disks; slots = slots; first = first; second = second; are = are }
 
   -- The content was not had.
