@@ -30,8 +30,8 @@ returns-then-gone_of-gt0 g c = inr (inr (inl (
     ],
     (
       _,
-      subst (λ d. ExplainsSaved g.D.Disk d c.match-explaining.address c.args.explaining.all c.args.outputs (c.explain_saved-status-outputs.result.0, c.explain_saved-status-outputs.result.1) c.explain_saved-status-outputs.result.2) c.into_devices-devices.ensures
-          c.explain_saved-status-outputs.ensures,
+      subst (λ d. ExplainsSaved g.D.Disk d c.match-explaining.address c.args.explaining.all c.args.outputs (c.explain_saved-status.result.0, c.explain_saved-status.result.1) c.explain_saved-status.result.2) c.into_devices-devices.ensures
+          c.explain_saved-status.ensures,
     ),
   ),
 )))
